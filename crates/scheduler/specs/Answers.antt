@@ -1,0 +1,17 @@
+-- The paper's numbers for each case of an answer.
+use Prim.Native.Nat.{ℕ}
+use Rattle.scheduler.specs.declared.Scheduler.{Scheduler}
+use Rattle.scheduler.specs.declared.Answer.{Answer}
+use Rattle.scheduler.specs.declared.Answer.the-variants.{Accepted, Refused, Idle, Run}
+use Rattle.scheduler.specs.declared.Answered.{Answered}
+use Rattle.scheduler.specs.Rule.{Reply}
+
+-- answer, thread, slice, threads before it
+unfoldable pub lineOf : Answer → Scheduler → Reply
+lineOf Accepted s = record { answer = 0; thread = 0; slice = 0; before = 0; state = s }
+lineOf (Refused k) s = record { answer = k; thread = 0; slice = 0; before = 0; state = s }
+lineOf (Idle n) s = record { answer = 0; thread = 64; slice = 0; before = n; state = s }
+lineOf (Run t a n) s = record { answer = 0; thread = t; slice = a; before = n; state = s }
+
+unfoldable pub replyOf : Answered → Reply
+replyOf r = lineOf (r .answer) (r .state)

@@ -1,0 +1,124 @@
+-- "The list rule": what each accepted call does.
+use Prim.Native.Nat.{ℕ, _+_, _-_}
+use mathlib.Core.List.{List, [], _∷_, _++_}
+use mathlib.Core.Bool.{Bool, cond, _||_}
+use lib.ListN.{drop, set, replicate}
+use lib.Dec.{leb, eqb}
+use Rattle.order.specs.Lists.{without, first, passed}
+use Rattle.scheduler.specs.declared.Thread.{Thread}
+use Rattle.scheduler.specs.declared.Scheduler.{Scheduler}
+use Rattle.scheduler.specs.State.{noThread, noGroup, threadAt, runnableAt, quantum, listed, withThread, withGroup, withList, withRun}
+use Rattle.scheduler.specs.Refusals.{Call, openGroup, closeGroup, admit, remove, wake, dispatch, report}
+
+-- "moves to the rear": the others keep their mutual order, and so does what stands past the list's end
+unfoldable pub rear : Scheduler → ℕ → List ℕ
+rear s n = without n (listed s) ++ n ∷ drop (s .count) (s .order)
+
+unfoldable pub toRear : ℕ → Scheduler → Scheduler
+toRear n s = withList s (rear s n) (s .count)
+
+-- off the list: moved to the rear, and the list ends before it
+unfoldable pub offList : ℕ → Scheduler → Scheduler
+offList n s = withList s (rear s n) (s .count - 1)
+
+-- "goes to the rear"
+unfoldable pub join : ℕ → Scheduler → Scheduler
+join n s = withList s (set (s .order) (s .count) n) (s .count + 1)
+
+-- "An admitted thread is runnable, has a full allotment"; its anchor is set
+unfoldable pub newThread : Scheduler → ℕ → ℕ → Thread
+newThread s g f = record {
+  admission = s .meter;
+  anchor = s .meter;
+  ticks = 0;
+  since = 0;
+  allotment = quantum s f;
+  reservation = f;
+  group = g;
+  status = 1;
+}
+
+-- "Wake makes a blocked thread runnable and changes neither place nor allotment"; its anchor is set
+unfoldable pub wokenThread : Scheduler → Thread → Thread
+wokenThread s t = record {
+  admission = t .admission;
+  anchor = s .meter;
+  ticks = t .ticks;
+  since = 0;
+  allotment = t .allotment;
+  reservation = t .reservation;
+  group = t .group;
+  status = 1;
+}
+
+-- "If the allotment reaches 0 it is made full and the thread moves to the rear." "A yield fills the allotment and moves to the rear
+-- once, also when nothing was left."
+unfoldable pub renewed : ℕ → ℕ → Thread → Bool
+renewed reason used t = eqb reason 2 || leb (t .allotment) used
+
+-- "A report charges the running thread the ticks used." Reasons: 0 tick, 1 block, 2 yield. "Its anchor is set .. at its own yield,
+-- after that report's charge."
+unfoldable pub chargedThread : Scheduler → ℕ → ℕ → Thread → Thread
+chargedThread s reason used t = record {
+  admission = t .admission;
+  anchor = cond (eqb reason 2) (s .meter + used) (t .anchor);
+  ticks = t .ticks + used;
+  since = cond (eqb reason 2) 0 (t .since + used);
+  allotment = cond (renewed reason used t) (quantum s (t .reservation)) (t .allotment - used);
+  reservation = t .reservation;
+  group = t .group;
+  status = cond (eqb reason 1) 2 1;
+}
+
+-- "The meter is the sum of ticks in all accepted reports"; the report "ends its run"
+unfoldable pub charged : ℕ → ℕ → ℕ → Scheduler → Scheduler
+charged r reason used s = withRun (withThread s r (chargedThread s reason used (threadAt s r))) 64 (s .meter + used)
+
+-- "Exit takes the thread off the list and frees number and reservation"
+unfoldable pub exited : ℕ → ℕ → Scheduler → Scheduler
+exited r used s = offList r (withRun (withThread s r noThread) 64 (s .meter + used))
+
+unfoldable pub reported : ℕ → ℕ → ℕ → Scheduler → Scheduler
+reported r reason used s =
+    cond (eqb reason 3) (exited r used s)
+    (cond (renewed reason used (threadAt s r)) (toRear r (charged r reason used s)) (charged r reason used s))
+
+-- "Dispatch takes the first runnable thread of the list": its number, or 64. "how many threads stood before it in the list"
+unfoldable pub chosen : Scheduler → ℕ
+chosen s = first (runnableAt s) (listed s)
+
+unfoldable pub passedOver : Scheduler → ℕ
+passedOver s = passed (runnableAt s) (listed s)
+
+unfoldable pub effect : Call → Scheduler → Scheduler
+effect (openGroup n p c) s = withGroup s n (record { ceiling = c; parent = p; opened = 1 })
+effect (closeGroup n) s = withGroup s n noGroup
+effect (admit n g f) s = join n (withThread s n (newThread s g f))
+effect (remove n) s = offList n (withThread s n noThread)
+effect (wake n) s = withThread s n (wokenThread s (threadAt s n))
+effect dispatch s = withRun s (chosen s) (s .meter)
+effect (report reason used) s = reported (s .running) reason used s
+
+-- an accepted start: group 0 is open with ceiling 1000, there are no threads, nothing runs, the meter is 0
+unfoldable pub started : ℕ → ℕ → Scheduler
+started m p = record {
+  threads = replicate 64 noThread;
+  order = replicate 64 0;
+  groups = record { ceiling = 1000; parent = 0; opened = 1 } ∷ replicate 15 noGroup;
+  meter = 0;
+  settings = record { thousandth = m; interval = p };
+  count = 0;
+  running = 64;
+}
+
+-- what a refused start hands out: all zeros, which is not sound, so that every call on it answers 16
+unfoldable pub unstarted : Scheduler
+unstarted = record {
+  threads = replicate 64 noThread;
+  order = replicate 64 0;
+  groups = replicate 16 noGroup;
+  meter = 0;
+  settings = record { thousandth = 0; interval = 0 };
+  count = 0;
+  running = 0;
+}

@@ -1,0 +1,9 @@
+pub mod State
+pub mod Sound
+pub mod Refusals
+pub mod Effects
+pub mod Rule
+pub mod Answers
+pub mod Accounts
+pub mod Stretch
+pub mod Tree

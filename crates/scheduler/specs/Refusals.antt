@@ -1,0 +1,78 @@
+-- "What each call turns down." Checks run in the order written; the first that applies is the answer. Every call that takes a state
+-- first gives 16 if it is not sound.
+use Prim.Native.Nat.{ℕ, _-_}
+use mathlib.Core.List.{List, [], _∷_}
+use mathlib.Core.Bool.{Bool, not, cond, _&&_, _||_}
+use lib.Dec.{ltb, leb, eqb}
+use Rattle.order.specs.Lists.{everyBelow}
+use Rattle.scheduler.specs.declared.Scheduler.{Scheduler}
+use Rattle.scheduler.specs.State.{groupAt, admittedAt, blockedAt, openAt, sliceAt}
+use Rattle.scheduler.specs.Sound.{within, threadIn, childOf, load, sound}
+
+-- The seven calls of a stretch. Start makes a state of its own.
+pub data Call : Type 0 where
+  openGroup : (number parent ceiling : ℕ) → Call
+  closeGroup : (number : ℕ) → Call
+  admit : (number group reservation : ℕ) → Call
+  remove : (number : ℕ) → Call
+  wake : (number : ℕ) → Call
+  dispatch : Call
+  report : (reason used : ℕ) → Call
+
+-- a check that turns a call down, with its number
+pub record Check : Type 0 where
+  pub applies : Bool
+  pub number : ℕ
+
+abbrev pub _⇒_ : Bool → ℕ → Check
+b ⇒ n = record { applies = b; number = n }
+
+infixl 25 _⇒_
+-- the number of the first check that applies, or 0
+unfoldable pub firstOf : List Check → ℕ
+firstOf [] = 0
+firstOf (c ∷ cs) = cond (c .applies) (c .number) (firstOf cs)
+
+-- "what the group has free"
+unfoldable pub free : Scheduler → ℕ → ℕ
+free s g = (groupAt s g) .ceiling - load s g
+
+-- "it has a thread or a child"
+unfoldable pub inUse : Scheduler → ℕ → Bool
+inUse s g = not (everyBelow (λ n. not (threadIn s g n)) 64) || not (everyBelow (λ c. not (childOf s g c)) 16)
+
+-- (a group above 15 is not open)
+unfoldable pub checks : Call → Scheduler → List Check
+checks (openGroup n p c) s =
+    (not (openAt s p) ⇒ 2)
+    ∷ (ltb 15 n || openAt s n || leb n p ⇒ 3)
+    ∷ (not (within 1 1000 c) ⇒ 4)
+    ∷ (ltb (free s p) c ⇒ 5)
+    ∷ []
+checks (closeGroup n) s = (eqb n 0 || not (openAt s n) ⇒ 2) ∷ (inUse s n ⇒ 6) ∷ []
+checks (admit n g f) s =
+    (ltb 63 n ⇒ 7)
+    ∷ (admittedAt s n ⇒ 8)
+    ∷ (not (openAt s g) ⇒ 2)
+    ∷ (not (within 1 1000 f) ⇒ 4)
+    ∷ (ltb (free s g) f ⇒ 5)
+    ∷ []
+checks (remove n) s = (ltb 63 n || not (admittedAt s n) ⇒ 7) ∷ (eqb (s .running) n ⇒ 9) ∷ []
+checks (wake n) s = (ltb 63 n || not (admittedAt s n) ⇒ 7) ∷ (not (blockedAt s n) ⇒ 10) ∷ []
+checks dispatch s = (not (eqb (s .running) 64) ⇒ 12) ∷ (leb 10000000000000 (s .meter) ⇒ 15) ∷ []
+checks (report reason used) s =
+    (eqb (s .running) 64 ⇒ 11)
+    ∷ (ltb 3 reason ⇒ 14)
+    ∷ (ltb (sliceAt s (s .running)) used ⇒ 13)
+    ∷ []
+
+-- the refusal's number, or 0
+unfoldable pub refusal : Call → Scheduler → ℕ
+refusal c s = firstOf ((not (sound s) ⇒ 16) ∷ checks c s)
+
+-- "Start: 1, m or P outside its range." "Map a priority: 4, outside 1 to 10."
+unfoldable pub startRefusal : ℕ → ℕ → ℕ
+startRefusal m p = firstOf ((not (within 1 1000 m) || not (within 1 1000000 p) ⇒ 1) ∷ [])
+
+unfoldable pub priorityRefusal : ℕ → ℕ
+priorityRefusal p = firstOf ((not (within 1 10 p) ⇒ 4) ∷ [])

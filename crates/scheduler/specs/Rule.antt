@@ -1,0 +1,54 @@
+-- What each call answers and the state it hands back. A refusal returns its number and the same state.
+use Prim.Native.Nat.{ℕ, _+_}
+use mathlib.Core.Bool.{Bool, true, false, cond}
+use lib.Dec.{eqb}
+use Rattle.scheduler.specs.declared.Scheduler.{Scheduler}
+use Rattle.scheduler.specs.State.{sliceAt}
+use Rattle.scheduler.specs.Refusals.{Call, openGroup, closeGroup, admit, remove, wake, dispatch, report, refusal, startRefusal, priorityRefusal}
+use Rattle.scheduler.specs.Effects.{chosen, passedOver, effect, started, unstarted}
+
+-- answer: 0 accepted, or the refusal
+pub record Reply : Type 0 where
+  pub answer : ℕ
+  pub thread : ℕ
+  pub slice : ℕ
+  pub before : ℕ
+  pub state : Scheduler
+
+unfoldable pub isDispatch : Call → Bool
+isDispatch (openGroup n p c) = false
+isDispatch (closeGroup n) = false
+isDispatch (admit n g f) = false
+isDispatch (remove n) = false
+isDispatch (wake n) = false
+isDispatch dispatch = true
+isDispatch (report r u) = false
+
+-- "thread, slice, threads before it. The last three are 0 except for an accepted dispatch; idle prints thread 64, slice 0", and the
+-- length of the list
+unfoldable pub accept : Call → Scheduler → Reply
+accept c s = record {
+  answer = 0;
+  thread = cond (isDispatch c) (chosen s) 0;
+  slice = cond (isDispatch c) (cond (eqb (chosen s) 64) 0 (sliceAt s (chosen s))) 0;
+  before = cond (isDispatch c) (passedOver s) 0;
+  state = effect c s;
+}
+
+unfoldable pub refuse : ℕ → Scheduler → Reply
+refuse k s = record { answer = k; thread = 0; slice = 0; before = 0; state = s }
+
+unfoldable pub step : Call → Scheduler → Reply
+step c s = cond (eqb (refusal c s) 0) (accept c s) (refuse (refusal c s) s)
+
+-- Start takes no state.
+unfoldable pub startReply : ℕ → ℕ → Reply
+startReply m p = cond (eqb (startRefusal m p) 0) (refuse 0 (started m p)) (refuse (startRefusal m p) unstarted)
+
+-- "A priority of 1 to 10 maps to the reservation priority plus 10": 0 and the reservation, or the refusal
+pub record Mapped : Type 0 where
+  pub answer : ℕ
+  pub reservation : ℕ
+
+unfoldable pub mapped : ℕ → Mapped
+mapped p = cond (eqb (priorityRefusal p) 0) (record { answer = 0; reservation = p + 10 }) (record { answer = priorityRefusal p; reservation = 0 })

@@ -1,0 +1,120 @@
+-- The state, read by thread and group number, and written by thread, group, list and run.
+-- Letters of the paper: m is `thousandth`, P is `interval`, f is `reservation`.
+use Prim.Native.Nat.{ℕ, _*_, min}
+use mathlib.Core.List.{List}
+use mathlib.Core.Bool.{Bool, _&&_}
+use lib.ListN.{getD, take, set}
+use lib.Dec.{ltb, eqb}
+use Rattle.scheduler.specs.declared.Settings.{Settings}
+use Rattle.scheduler.specs.declared.Thread.{Thread}
+use Rattle.scheduler.specs.declared.Group.{Group}
+use Rattle.scheduler.specs.declared.Scheduler.{Scheduler}
+
+-- "by default 100", "by default 20,000"
+abbrev pub defaultSettings : Settings
+defaultSettings = record { thousandth = 100; interval = 20000 }
+
+-- A freed entry is all zeros.
+abbrev pub noThread : Thread
+noThread = record { admission = 0; anchor = 0; ticks = 0; since = 0; allotment = 0; reservation = 0; group = 0; status = 0 }
+
+abbrev pub noGroup : Group
+noGroup = record { ceiling = 0; parent = 0; opened = 0 }
+
+-- A thread's status: 0 free, 1 runnable, 2 blocked. A group's: 0 closed, 1 open.
+abbrev pub isAdmitted : Thread → Bool
+isAdmitted t = ltb 0 (t .status)
+
+abbrev pub isRunnable : Thread → Bool
+isRunnable t = eqb (t .status) 1
+
+abbrev pub isBlocked : Thread → Bool
+isBlocked t = eqb (t .status) 2
+
+abbrev pub isOpen : Group → Bool
+isOpen g = eqb (g .opened) 1
+
+abbrev pub threadAt : Scheduler → ℕ → Thread
+threadAt s n = getD (s .threads) n noThread
+
+abbrev pub groupAt : Scheduler → ℕ → Group
+groupAt s n = getD (s .groups) n noGroup
+
+unfoldable pub admittedAt : Scheduler → ℕ → Bool
+admittedAt s n = isAdmitted (threadAt s n)
+
+unfoldable pub runnableAt : Scheduler → ℕ → Bool
+runnableAt s n = isRunnable (threadAt s n)
+
+unfoldable pub blockedAt : Scheduler → ℕ → Bool
+blockedAt s n = isBlocked (threadAt s n)
+
+-- it has a reservation in a group and stands in the list: here every admitted thread
+abbrev pub reservedAt : Scheduler → ℕ → Bool
+reservedAt s n = admittedAt s n
+
+unfoldable pub reservationAt : Scheduler → ℕ → ℕ
+reservationAt s n = (threadAt s n) .reservation
+
+unfoldable pub allotmentAt : Scheduler → ℕ → ℕ
+allotmentAt s n = (threadAt s n) .allotment
+
+unfoldable pub openAt : Scheduler → ℕ → Bool
+openAt s n = ltb n 16 && isOpen (groupAt s n)
+
+-- "A thread of reservation f has a quantum of f × m ticks"
+abbrev pub quantum : Scheduler → ℕ → ℕ
+quantum s f = f * s .settings .thousandth
+
+-- "One list": front first
+unfoldable pub listed : Scheduler → List ℕ
+listed s = take (s .count) (s .order)
+
+-- "Its slice is the smaller of its allotment and P."
+unfoldable pub sliceAt : Scheduler → ℕ → ℕ
+sliceAt s n = min (allotmentAt s n) (s .settings .interval)
+
+-- The state with one thread, one group, the list or the run replaced.
+unfoldable pub withThread : Scheduler → ℕ → Thread → Scheduler
+withThread s n t = record {
+  threads = set (s .threads) n t;
+  order = s .order;
+  groups = s .groups;
+  meter = s .meter;
+  settings = s .settings;
+  count = s .count;
+  running = s .running;
+}
+
+unfoldable pub withGroup : Scheduler → ℕ → Group → Scheduler
+withGroup s n g = record {
+  threads = s .threads;
+  order = s .order;
+  groups = set (s .groups) n g;
+  meter = s .meter;
+  settings = s .settings;
+  count = s .count;
+  running = s .running;
+}
+
+unfoldable pub withList : Scheduler → List ℕ → ℕ → Scheduler
+withList s order count = record {
+  threads = s .threads;
+  order = order;
+  groups = s .groups;
+  meter = s .meter;
+  settings = s .settings;
+  count = count;
+  running = s .running;
+}
+
+unfoldable pub withRun : Scheduler → ℕ → ℕ → Scheduler
+withRun s running meter = record {
+  threads = s .threads;
+  order = s .order;
+  groups = s .groups;
+  meter = meter;
+  settings = s .settings;
+  count = s .count;
+  running = running;
+}

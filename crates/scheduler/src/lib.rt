@@ -1,0 +1,95 @@
+// The scheduler's state. It goes by value, and every bit pattern of it is harmless: what has no meaning is not sound.
+ghost use mathlib.Core.Path.{_≡_};
+ghost use Rattle.scheduler.specs.State.{defaultSettings};
+
+// The settings: m, the ticks per thousandth of the virtual time quantum, and P, the preemption interval in ticks.
+#[repr(C)]
+pub struct Settings {
+    pub thousandth: u32,
+    pub interval: u32,
+}
+
+impl Settings {
+    pub const THOUSANDTH: u32 = 100;
+
+    pub const INTERVAL: u32 = 20000;
+
+    pub const THOUSANDTH_MOST: u32 = 1000;
+
+    pub const INTERVAL_MOST: u32 = 1000000;
+
+    // The default settings.
+    pub fn new() -> Self
+        ensures { λ r. ⌜ r ≡ defaultSettings ⌝ }
+    {
+        Self {
+            thousandth: Self::THOUSANDTH,
+            interval: Self::INTERVAL,
+        }
+    }
+}
+
+// A thread. status: 0 free, 1 runnable, 2 blocked. admission and anchor are the meter at admission and at the anchor;
+// ticks and since are the thread's ticks since each.
+#[repr(C)]
+pub struct Thread {
+    pub admission: u64,
+    pub anchor: u64,
+    pub ticks: u64,
+    pub since: u64,
+    pub allotment: u32,
+    pub reservation: u16,
+    pub group: u8,
+    pub status: u8,
+}
+
+// A group. opened: 0 closed, 1 open.
+#[repr(C)]
+pub struct Group {
+    pub ceiling: u16,
+    pub parent: u8,
+    pub opened: u8,
+}
+
+// The list is the first `count` entries of `order`, front first. running: the running thread's number, or 64.
+#[repr(C)]
+pub struct Scheduler {
+    pub threads: [Thread; 64],
+    pub order: [u8; 64],
+    pub groups: [Group; 16],
+    pub meter: u64,
+    pub settings: Settings,
+    pub count: u32,
+    pub running: u32,
+}
+
+impl Scheduler {
+    pub const THREADS: u32 = 64;
+
+    pub const GROUPS: u32 = 16;
+
+    pub const WHOLE: u32 = 1000;
+
+    pub const METER_LIMIT: u64 = 10000000000000;
+
+    pub const METER_MOST: u64 = 10000001000000;
+}
+
+// What a call answers. `lineOf` sets out the paper's numbers for each case.
+pub enum Answer {
+    Accepted,
+    Refused(u32),
+    Idle(u32),
+    Run {
+        thread: u32,
+        slice: u32,
+        before: u32,
+    },
+}
+
+// A call's answer with the state that it hands back.
+#[repr(C)]
+pub struct Answered {
+    pub answer: Answer,
+    pub state: Scheduler,
+}
