@@ -1,0 +1,358 @@
+-- Soundness as a record of facts: `facts` reads a sound state's tests as facts, and `sound-of` goes back. Then how the list and the
+-- threads read after each change of the state. Proofs about the rule use these facts and not the tests.
+use Prim.Native.Nat.{ℕ, zero, suc, _+_, _-_, _*_, min, _≤_, _<_}
+use mathlib.Core.Path.{_≡_, refl, sym, ap, subst, _∙_}
+use mathlib.Core.List.{List, [], _∷_, _++_, append-assoc}
+use mathlib.Core.Bool.{Bool, true, false, not, cond, _&&_, _||_}
+use native.Mathlib.Omega.{arith}
+use native.Mathlib.Numerals.{add-one}
+use lib.ListN.{length, length-append, length-drop, getD, take, drop, set, List·getD-eq-default}
+use lib.Seq.{getD-set-same, getD-set-other, take-at, take-suc-set, length-take-le}
+use lib.Dec.{T, ltb, leb, eqb, ltb→lt, leb→le, eqb→eq, lt→ltb, le→leb}
+use borrow.Author.Tests.{eqb-true, eqb-false, ne-eqb, eq-eqb, ltb-false, lt-ltb}
+use Rattle.order.specs.Lists.{member, distinct, without, everyOf, everyBelow}
+use Rattle.order.proofs.Bools.{by, and-l, and-r, both, is, isn't, holds, implies, implied}
+use Rattle.order.proofs.Lists.{everyOf-at, everyOf-map, length-without, pigeons}
+use Rattle.order.proofs.Sums.{everyBelow-at, everyBelow-of}
+use Rattle.scheduler.specs.declared.Thread.{Thread}
+use Rattle.scheduler.specs.declared.Settings.{Settings}
+use Rattle.scheduler.specs.declared.Scheduler.{Scheduler}
+use Rattle.scheduler.specs.State.{
+  noThread,
+  isAdmitted,
+  threadAt,
+  groupAt,
+  admittedAt,
+  reservedAt,
+  reservationAt,
+  allotmentAt,
+  openAt,
+  quantum,
+  listed,
+  runnableAt,
+  withThread,
+  withList,
+}
+use Rattle.scheduler.specs.Sound.{within, settingsOk, load, groupOk, groupsOk, threadOk, listOk, runningOk, shapeOk, sound}
+use Rattle.scheduler.specs.Refusals.{Check, firstOf}
+use Rattle.scheduler.specs.Effects.{join}
+
+-- a thread's own numbers
+pub record Fit (t : Thread) (m meter : ℕ) : Type 0 where
+  pub positive : 1 ≤ t .reservation
+  pub at-most : t .reservation ≤ 1000
+  pub some : 1 ≤ t .allotment
+  pub bounded : t .allotment ≤ t .reservation * m
+  pub anchored : t .admission ≤ t .anchor
+  pub past : t .anchor ≤ meter
+  pub charged : t .ticks ≤ meter - t .admission
+  pub since : t .since ≤ meter - t .anchor
+
+-- an admitted thread
+pub record ThreadFacts (s : Scheduler) (n : ℕ) : Type 0 where
+  pub small : n < 64
+  pub in-list : T (member n (listed s))
+  pub in-group : T (openAt s ((threadAt s n) .group))
+  pub fit : Fit (threadAt s n) (s .settings .thousandth) (s .meter)
+
+-- an open group
+pub record GroupFacts (s : Scheduler) (g : ℕ) : Type 0 where
+  pub positive : 1 ≤ (groupAt s g) .ceiling
+  pub at-most : (groupAt s g) .ceiling ≤ 1000
+  pub parent : (g ≡ 0 → ⊥) → ((groupAt s g) .parent < g) × T (openAt s ((groupAt s g) .parent))
+  pub carries : load s g ≤ (groupAt s g) .ceiling
+
+-- the running thread
+pub record RunFacts (s : Scheduler) : Type 0 where
+  pub small : s .running < 64
+  pub admitted : T (admittedAt s (s .running))
+  pub runnable : T (runnableAt s (s .running))
+  pub early : s .meter < 10000000000000
+
+pub record Facts (s : Scheduler) : Type 0 where
+  pub threads64 : length (s .threads) ≡ 64
+  pub groups16 : length (s .groups) ≡ 16
+  pub order64 : length (s .order) ≡ 64
+  pub settings : T (settingsOk (s .settings))
+  pub root : T (openAt s 0)
+  pub whole : (groupAt s 0) .ceiling ≡ 1000
+  pub flag : (g : ℕ) → g < 16 → (groupAt s g) .opened ≤ 1
+  pub group : (g : ℕ) → g < 16 → T (openAt s g) → GroupFacts s g
+  pub status : (n : ℕ) → n < 64 → (threadAt s n) .status ≤ 2
+  pub thread : (n : ℕ) → T (admittedAt s n) → ThreadFacts s n
+  pub count64 : s .count ≤ 64
+  pub members : T (everyOf (λ n. ltb n 64 && reservedAt s n) (listed s))
+  pub once : T (distinct (listed s))
+  pub run : (s .running ≡ 64 → ⊥) → RunFacts s
+  pub meter : s .meter ≤ 10000001000000
+
+-- From the tests.
+
+-- an admitted thread's number is in range
+admitted-small : (s : Scheduler) → length (s .threads) ≡ 64 → (n : ℕ) → T (admittedAt s n) → n < 64
+unfolding admittedAt
+admitted-small s e n t =
+    by (λ b. ltb n 64 ≡ b → n < 64) (ltb n 64)
+    (λ q _. ltb→lt n 64 (holds (ltb n 64) q))
+    (λ q _. absurd (subst (λ (z : Thread). T (isAdmitted z)) (List·getD-eq-default (s .threads) noThread (omega (arith, ltb-false n 64 q, e))) t))
+    refl
+
+thread-of : (s : Scheduler) (n : ℕ) → n < 64 → T (threadOk s n) → T (admittedAt s n) → ThreadFacts s n
+unfolding threadOk within reservationAt allotmentAt
+thread-of s n small t a =
+    let th = threadAt s n in
+    let t′ = rw (is (admittedAt s n) a) at (and-r (leb (th .status) 2) _ t) in
+    record {
+      small = small;
+      in-list = search (and-l, and-r) depth 12;
+      in-group = search (and-l, and-r) depth 12;
+      fit = record {
+        positive = leb→le 1 (th .reservation) (search (and-l, and-r) depth 12);
+        at-most = leb→le (th .reservation) 1000 (search (and-l, and-r) depth 12);
+        some = leb→le 1 (th .allotment) (search (and-l, and-r) depth 12);
+        bounded = leb→le (th .allotment) (th .reservation * s .settings .thousandth) (search (and-l, and-r) depth 12);
+        anchored = leb→le (th .admission) (th .anchor) (search (and-l, and-r) depth 12);
+        past = leb→le (th .anchor) (s .meter) (search (and-l, and-r) depth 12);
+        charged = leb→le (th .ticks) (s .meter - th .admission) (search (and-l, and-r) depth 12);
+        since = leb→le (th .since) (s .meter - th .anchor) (search (and-l, and-r) depth 12);
+      };
+    }
+
+status-of : (s : Scheduler) (n : ℕ) → T (threadOk s n) → (threadAt s n) .status ≤ 2
+unfolding threadOk
+status-of s n t = leb→le ((threadAt s n) .status) 2 (and-l (leb ((threadAt s n) .status) 2) _ t)
+
+group-of : (s : Scheduler) (g : ℕ) → T (groupOk s g) → T (openAt s g) → GroupFacts s g
+unfolding groupOk within
+group-of s g t o =
+    let r = groupAt s g in
+    let t′ = rw (is (openAt s g) o) at (and-r (leb (r .opened) 1) _ t) in
+    record {
+      positive = leb→le 1 (r .ceiling) (search (and-l, and-r) depth 12);
+      at-most = leb→le (r .ceiling) 1000 (search (and-l, and-r) depth 12);
+      parent = λ ne. under ne (search (and-l, and-r) depth 12);
+      carries = leb→le (load s g) (r .ceiling) (search (and-l, and-r) depth 12);
+    }
+  where
+    under : (g ≡ 0 → ⊥) → T (eqb g 0 || (ltb ((groupAt s g) .parent) g && openAt s ((groupAt s g) .parent))) → ((groupAt s g) .parent < g) × T (openAt s ((groupAt s g) .parent))
+    under ne u =
+        let u′ = rw (ne-eqb g 0 ne) at u in
+        (ltb→lt ((groupAt s g) .parent) g (and-l (ltb ((groupAt s g) .parent) g) (openAt s ((groupAt s g) .parent)) u′), and-r (ltb ((groupAt s g) .parent) g) (openAt s ((groupAt s g) .parent)) u′)
+
+flag-of : (s : Scheduler) (g : ℕ) → T (groupOk s g) → (groupAt s g) .opened ≤ 1
+unfolding groupOk
+flag-of s g t = leb→le ((groupAt s g) .opened) 1 (and-l (leb ((groupAt s g) .opened) 1) _ t)
+
+run-of : (s : Scheduler) → T (runningOk s) → (s .running ≡ 64 → ⊥) → RunFacts s
+unfolding runningOk
+run-of s t ne =
+    let t′ = rw (ne-eqb (s .running) 64 ne) at t in
+    record {
+      small = ltb→lt (s .running) 64 (search (and-l, and-r));
+      admitted = search (and-l, and-r);
+      runnable = search (and-l, and-r);
+      early = ltb→lt (s .meter) 10000000000000 (search (and-l, and-r));
+    }
+
+record Parts (s : Scheduler) : Type 0 where
+  shape : T (shapeOk s)
+  settings : T (settingsOk (s .settings))
+  groups : T (groupsOk s)
+  threads : T (everyBelow (threadOk s) 64)
+  list : T (listOk s)
+  run : T (runningOk s)
+  meter : T (leb (s .meter) 10000001000000)
+
+parts : (s : Scheduler) → T (sound s) → Parts s
+unfolding sound
+parts s t = record {
+  shape = search (and-l, and-r) depth 10;
+  settings = search (and-l, and-r) depth 10;
+  groups = search (and-l, and-r) depth 10;
+  threads = search (and-l, and-r) depth 10;
+  list = search (and-l, and-r) depth 10;
+  run = search (and-l, and-r) depth 10;
+  meter = search (and-l, and-r) depth 10;
+}
+
+pub facts : (s : Scheduler) → T (sound s) → Facts s
+unfolding shapeOk groupsOk listOk
+facts s t =
+    let k = parts s t in
+    let gs = k .groups in
+    let li = k .list in
+    let sh = k .shape in
+    let ts : length (s .threads) ≡ 64 = eqb→eq (length (s .threads)) 64 (search (and-l, and-r)) in
+    record {
+      threads64 = ts;
+      groups16 = eqb→eq (length (s .groups)) 16 (search (and-l, and-r));
+      order64 = eqb→eq (length (s .order)) 64 (search (and-l, and-r));
+      settings = k .settings;
+      root = search (and-l, and-r);
+      whole = eqb→eq ((groupAt s 0) .ceiling) 1000 (search (and-l, and-r));
+      flag = λ g l. flag-of s g (everyBelow-at (groupOk s) 16 (search (and-l, and-r)) g l);
+      group = λ g l o. group-of s g (everyBelow-at (groupOk s) 16 (search (and-l, and-r)) g l) o;
+      status = λ n l. status-of s n (everyBelow-at (threadOk s) 64 (k .threads) n l);
+      thread = λ n a.
+          let l = admitted-small s ts n a in
+          thread-of s n l (everyBelow-at (threadOk s) 64 (k .threads) n l) a;
+      count64 = leb→le (s .count) 64 (search (and-l, and-r));
+      members = search (and-l, and-r);
+      once = search (and-l, and-r);
+      run = run-of s (k .run);
+      meter = leb→le (s .meter) 10000001000000 (k .meter);
+    }
+
+-- Back to the tests.
+
+ok-thread : (s : Scheduler) (n : ℕ) → (threadAt s n) .status ≤ 2 → (T (admittedAt s n) → ThreadFacts s n) → T (threadOk s n)
+unfolding threadOk within reservationAt allotmentAt
+ok-thread s n e f = both (leb ((threadAt s n) .status) 2) _ (le→leb ((threadAt s n) .status) 2 e) (implies (admittedAt s n) _ (λ a. go (f a)))
+  where
+    go : ThreadFacts s n
+        → T (member n (listed s)
+        && (leb 1 ((threadAt s n) .reservation) && leb ((threadAt s n) .reservation) 1000)
+        && openAt s ((threadAt s n) .group)
+        && (leb 1 ((threadAt s n) .allotment) && leb ((threadAt s n) .allotment) ((threadAt s n) .reservation * s .settings .thousandth))
+        && leb ((threadAt s n) .admission) ((threadAt s n) .anchor)
+        && leb ((threadAt s n) .anchor) (s .meter)
+        && leb ((threadAt s n) .ticks) (s .meter - (threadAt s n) .admission)
+        && leb ((threadAt s n) .since) (s .meter - (threadAt s n) .anchor))
+    go k =
+        let th = threadAt s n in
+        let q = k .fit in
+        search (both, le→leb) depth 12
+
+ok-group : (s : Scheduler) (g : ℕ) → (groupAt s g) .opened ≤ 1 → (T (openAt s g) → GroupFacts s g) → T (groupOk s g)
+unfolding groupOk within
+ok-group s g e f = both (leb ((groupAt s g) .opened) 1) _ (le→leb ((groupAt s g) .opened) 1 e) (implies (openAt s g) _ (λ o. go (f o)))
+  where
+    under : GroupFacts s g → T (eqb g 0 || (ltb ((groupAt s g) .parent) g && openAt s ((groupAt s g) .parent)))
+    under k =
+        by (λ b. eqb g 0 ≡ b → T (b || (ltb ((groupAt s g) .parent) g && openAt s ((groupAt s g) .parent)))) (eqb g 0)
+        (λ _ _. tt)
+        (λ e _.
+        let u = k .parent (eqb-false g 0 e) in
+        both (ltb ((groupAt s g) .parent) g) (openAt s ((groupAt s g) .parent)) (lt→ltb ((groupAt s g) .parent) g (u .0)) (u .1))
+        refl
+
+    go : GroupFacts s g
+        → T ((leb 1 ((groupAt s g) .ceiling) && leb ((groupAt s g) .ceiling) 1000)
+        && (eqb g 0 || (ltb ((groupAt s g) .parent) g && openAt s ((groupAt s g) .parent)))
+        && leb (load s g) ((groupAt s g) .ceiling))
+    go k =
+        let u = under k in
+        search (both, le→leb) depth 12
+
+ok-run : (s : Scheduler) → ((s .running ≡ 64 → ⊥) → RunFacts s) → T (runningOk s)
+unfolding runningOk
+ok-run s f =
+    by (λ b. eqb (s .running) 64 ≡ b → T (b || (ltb (s .running) 64 && admittedAt s (s .running) && runnableAt s (s .running) && ltb (s .meter) 10000000000000))) (eqb (s .running) 64)
+    (λ _ _. tt)
+    (λ e _. go (f (eqb-false (s .running) 64 e)))
+    refl
+  where
+    go : RunFacts s → T (ltb (s .running) 64 && admittedAt s (s .running) && runnableAt s (s .running) && ltb (s .meter) 10000000000000)
+    go k = search (both, lt→ltb) depth 12
+
+pub sound-of : (s : Scheduler) → Facts s → T (sound s)
+unfolding sound shapeOk groupsOk listOk
+sound-of s k =
+    let e1 : T (eqb (length (s .threads)) 64) = holds (eqb (length (s .threads)) 64) (eq-eqb (length (s .threads)) 64 (k .threads64)) in
+    let e2 : T (eqb (length (s .groups)) 16) = holds (eqb (length (s .groups)) 16) (eq-eqb (length (s .groups)) 16 (k .groups16)) in
+    let e3 : T (eqb (length (s .order)) 64) = holds (eqb (length (s .order)) 64) (eq-eqb (length (s .order)) 64 (k .order64)) in
+    let e4 : T (eqb ((groupAt s 0) .ceiling) 1000) = holds (eqb ((groupAt s 0) .ceiling) 1000) (eq-eqb ((groupAt s 0) .ceiling) 1000 (k .whole)) in
+    let gs : T (everyBelow (groupOk s) 16) = everyBelow-of (groupOk s) 16 (λ g l. ok-group s g (k .flag g l) (k .group g l)) in
+    let ts : T (everyBelow (threadOk s) 64) = everyBelow-of (threadOk s) 64 (λ n l. ok-thread s n (k .status n l) (k .thread n)) in
+    let ru : T (runningOk s) = ok-run s (k .run) in
+    search (both, le→leb) depth 16
+
+-- What the facts say of one thread, group or call.
+
+pub open-small : (s : Scheduler) (g : ℕ) → T (openAt s g) → g < 16
+unfolding openAt
+open-small s g o = ltb→lt g 16 (and-l (ltb g 16) _ o)
+
+pub in-threads : (s : Scheduler) → Facts s → (n : ℕ) → T (admittedAt s n) → n < length (s .threads)
+in-threads s k n a = omega (arith, k .threads64, (k .thread n a) .small)
+
+-- a thread in the list is admitted
+pub member-admitted : (s : Scheduler) → Facts s → (n : ℕ) → T (member n (listed s)) → T (admittedAt s n)
+member-admitted s k n m = and-r (ltb n 64) (admittedAt s n) (everyOf-at (λ j. ltb j 64 && reservedAt s j) (listed s) (k .members) n m)
+
+pub below-quantum : (s : Scheduler) → Facts s → (n : ℕ) → T (admittedAt s n) → allotmentAt s n ≤ reservationAt s n * s .settings .thousandth
+unfolding allotmentAt reservationAt
+below-quantum s k n a = (k .thread n a) .fit .bounded
+
+pub below-whole : (s : Scheduler) → Facts s → (n : ℕ) → T (admittedAt s n) → reservationAt s n ≤ 1000
+unfolding reservationAt
+below-whole s k n a = (k .thread n a) .fit .at-most
+
+pub carries : (s : Scheduler) → Facts s → (g : ℕ) → T (openAt s g) → load s g ≤ (groupAt s g) .ceiling
+carries s k g o = (k .group g (open-small s g o) o) .carries
+
+pub settings-facts : (z : Settings) → T (settingsOk z) → (1 ≤ z .thousandth) × (z .thousandth ≤ 1000) × (1 ≤ z .interval) × (z .interval ≤ 1000000)
+unfolding settingsOk within
+settings-facts z t = (
+  leb→le 1 (z .thousandth) (search (and-l, and-r)),
+  leb→le (z .thousandth) 1000 (search (and-l, and-r)),
+  leb→le 1 (z .interval) (search (and-l, and-r)),
+  leb→le (z .interval) 1000000 (search (and-l, and-r)),
+)
+
+-- a check that has passed
+pub peel : (c : Check) (cs : List Check) → 0 < c .number → firstOf (c ∷ cs) ≡ 0 → (c .applies ≡ false) × (firstOf cs ≡ 0)
+unfolding firstOf
+peel c cs pos e =
+    by (λ b. cond b (c .number) (firstOf cs) ≡ 0 → (b ≡ false) × (firstOf cs ≡ 0)) (c .applies)
+    (λ q u. absurd (omega arith))
+    (λ q u. (refl, u))
+    e
+
+-- The list after a change.
+
+pub fits : (s : Scheduler) → Facts s → s .count ≤ length (s .order)
+fits s k = omega (arith, k .count64, k .order64)
+
+pub length-listed : (s : Scheduler) → Facts s → length (listed s) ≡ s .count
+unfolding listed
+length-listed s k = length-take-le (s .count) (s .order) (fits s k)
+
+-- n moved to the rear of the first c entries of o
+pub take-rear : (o : List ℕ) (c n : ℕ) → c ≤ length o → T (distinct (take c o)) → T (member n (take c o))
+    → take c (without n (take c o) ++ n ∷ drop c o) ≡ without n (take c o) ++ n ∷ []
+take-rear o c n fits once h =
+    let w = without n (take c o) in
+    rw (← append-assoc w (n ∷ []) (drop c o))
+    (take-at (w ++ n ∷ []) (drop c o) c (simp length-append (omega (arith, length-without n (take c o) once h, length-take-le c o fits))))
+
+pub take-off : (o : List ℕ) (c n : ℕ) → c ≤ length o → T (distinct (take c o)) → T (member n (take c o))
+    → take (c - 1) (without n (take c o) ++ n ∷ drop c o) ≡ without n (take c o)
+take-off o c n fits once h =
+    take-at (without n (take c o)) (n ∷ drop c o) (c - 1) (omega (arith, length-without n (take c o) once h, length-take-le c o fits))
+
+pub length-rear : (o : List ℕ) (c n : ℕ) → c ≤ length o → T (distinct (take c o)) → T (member n (take c o)) → length (without n (take c o) ++ n ∷ drop c o) ≡ length o
+length-rear o c n le once h =
+    simp (length-append, length-drop) (omega (arith, length-without n (take c o) once h, length-take-le c o le))
+
+pub room : (s : Scheduler) → Facts s → (n : ℕ) → n < 64 → T (not (member n (listed s))) → s .count < 64
+unfolding distinct everyOf
+room s k n small out =
+    let d : T (distinct (n ∷ listed s)) = rw (isn't (member n (listed s)) out) (k .once) in
+    let e : T (everyOf (λ n. ltb n 64) (n ∷ listed s)) =
+    rw (lt-ltb n 64 small) (everyOf-map (λ n. ltb n 64 && reservedAt s n) (λ n. ltb n 64) (listed s) (λ j _ u. and-l (ltb j 64) (reservedAt s j) u) (k .members)) in
+    omega (arith, pigeons 64 (n ∷ listed s) d e, length-listed s k)
+
+pub listed-join : (s : Scheduler) → s .count < length (s .order) → (n : ℕ) → listed (join n s) ≡ listed s ++ n ∷ []
+unfolding listed join withList
+listed-join s h n = rw add-one (take-suc-set (s .order) (s .count) n h)
+
+-- The threads after a change.
+
+pub thread-other : (s : Scheduler) (n : ℕ) (t : Thread) (k : ℕ) → (k ≡ n → ⊥) → threadAt (withThread s n t) k ≡ threadAt s k
+unfolding withThread
+thread-other s n t k a = getD-set-other (s .threads) n k t noThread a
+
+pub thread-same : (s : Scheduler) (n : ℕ) (t : Thread) → n < length (s .threads) → threadAt (withThread s n t) n ≡ t
+unfolding withThread
+thread-same s n t h = getD-set-same (s .threads) n t noThread h
