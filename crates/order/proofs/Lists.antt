@@ -6,10 +6,10 @@ use mathlib.Core.List.{List, [], _∷_, _++_}
 use mathlib.Core.Bool.{Bool, true, false, not, cond, _&&_, _||_}
 use native.Mathlib.Omega.{arith}
 use native.Mathlib.Nat.{le-refl, add-mul}
-use lib.ListN.{length}
+use lib.ListN.{length, getD, take}
 use lib.Dec.{T, eqb, eqb-refl, ltb, ltb→lt, lt→ltb}
 use borrow.Author.Tests.{eqb-true, eqb-false, ne-eqb, eq-eqb}
-use Rattle.order.specs.Lists.{member, distinct, without, first, everyOf}
+use Rattle.order.specs.Lists.{member, distinct, without, first, passed, everyOf}
 use Rattle.order.proofs.Bools.{by, and-l, and-r, is, isn't, holds, clash, or-true, or-right, both, nor-l, nor-r}
 
 -- Sums over a list.
@@ -340,3 +340,44 @@ first-found p (n ∷ l) ne =
     let ih = first-found p l u in
     (or-right (eqb n (first p l)) (member (first p l) l) (ih .0), ih .1)))
     ne
+
+-- the entries before the first that passes, and that one
+pub passed-before : (p : ℕ → Bool) (l : List ℕ) → T (everyOf (λ n. not (p n)) (take (passed p l) l))
+unfolding passed everyOf
+passed-before p [] = tt
+passed-before p (n ∷ l) =
+    by (λ b. p n ≡ b → T (everyOf (λ n. not (p n)) (take (cond b 0 (suc (passed p l))) (n ∷ l)))) (p n)
+    (λ e _. tt)
+    (λ e _. rw e (passed-before p l))
+    refl
+
+pub passed-at : (p : ℕ → Bool) (l : List ℕ) → getD l (passed p l) 64 ≡ first p l
+unfolding passed first
+passed-at p [] = refl
+passed-at p (n ∷ l) =
+    by (λ b. getD (n ∷ l) (cond b 0 (suc (passed p l))) 64 ≡ cond b n (first p l)) (p n) (λ e. refl) (λ e. passed-at p l)
+
+pub passed-all : (p : ℕ → Bool) (l : List ℕ) → T (everyOf (λ n. not (p n)) l) → passed p l ≡ length l
+unfolding passed everyOf
+passed-all p [] t = refl
+passed-all p (n ∷ l) t =
+    rw (isn't (p n) (and-l (not (p n)) (everyOf (λ n. not (p n)) l) t))
+    (ap suc (passed-all p l (and-r (not (p n)) (everyOf (λ n. not (p n)) l) t)))
+
+-- of numbers below 64 none passes where the first is 64
+pub first-none : (p : ℕ → Bool) (l : List ℕ) → T (everyOf (λ n. ltb n 64) l) → first p l ≡ 64 → T (everyOf (λ n. not (p n)) l)
+unfolding first everyOf
+first-none p [] t e = tt
+first-none p (n ∷ l) t e =
+    (by (λ b. cond b n (first p l) ≡ 64 → T (not b && everyOf (λ n. not (p n)) l)) (p n)
+    (λ q u. absurd (omega (arith, ltb→lt n 64 (and-l (ltb n 64) (everyOf (λ n. ltb n 64) l) t))))
+    (λ q u. first-none p l (and-r (ltb n 64) (everyOf (λ n. ltb n 64) l) t) u))
+    e
+
+pub without-snoc : (n : ℕ) (l : List ℕ) → without n (l ++ n ∷ []) ≡ without n l
+unfolding without
+without-snoc n [] = rw (eq-eqb n n refl)
+without-snoc n (k ∷ l) = ap (λ (z : List ℕ). cond (eqb k n) z (k ∷ z)) (without-snoc n l)
+
+pub without-twice : (n : ℕ) (l : List ℕ) → without n (without n l) ≡ without n l
+without-twice n l = without-none n (without n l) (member-self n l)

@@ -1,1 +1,11 @@
 pub mod Facts
+pub mod Passed
+pub mod Tree
+pub mod Gauge
+pub mod Step
+pub mod Keep
+pub mod Share
+pub mod Guarantee
+pub mod Change
+pub mod Preserve
+pub mod Preserved
