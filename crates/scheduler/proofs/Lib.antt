@@ -9,3 +9,5 @@ pub mod Guarantee
 pub mod Change
 pub mod Preserve
 pub mod Preserved
+pub mod ListRule
+pub mod Growth

@@ -10,7 +10,7 @@ use lib.Seq.{set-getD}
 use lib.Dec.{T, ltb, leb, eqb, lit<, ltb→lt, lt→ltb}
 use borrow.Author.Tests.{eqb-true, eqb-false, leb-false}
 use Rattle.order.specs.Lists.{member, distinct, without, everyOf}
-use Rattle.order.proofs.Bools.{by, and-l, and-r, both, is, holds, clash, or-false-r}
+use Rattle.order.proofs.Bools.{by, and-l, and-r, both, is, or-false-r}
 use Rattle.order.proofs.Lists.{member-without, everyOf-at, everyOf-without, distinct-without, member-self, everyOf-map, everyOf-snoc, member-left, member-last, distinct-snoc, first-found}
 use Rattle.scheduler.specs.declared.Thread.{Thread}
 use Rattle.scheduler.specs.declared.Scheduler.{Scheduler}
@@ -18,7 +18,7 @@ use Rattle.scheduler.specs.State.{noThread, threadAt, groupAt, admittedA
 use Rattle.scheduler.specs.Sound.{load}
 use Rattle.scheduler.specs.Refusals.{admit, remove, wake, dispatch, free}
 use Rattle.scheduler.specs.Effects.{rear, toRear, offList, join, newThread, wokenThread, renewed, chargedThread, charged, exited, reported, chosen, effect}
-use Rattle.scheduler.proofs.Facts.{Fit, ThreadFacts, RunFacts, Facts, carries, settings-facts, take-rear, take-off, length-rear, room, listed-join, thread-other, thread-same}
+use Rattle.scheduler.proofs.Facts.{Fit, ThreadFacts, RunFacts, Facts, carries, settings-facts, take-rear, take-off, length-rear, room, listed-join, thread-other, thread-same, unlisted}
 use Rattle.scheduler.proofs.Passed.{reported-cases, AdmitOk}
 use Rattle.scheduler.proofs.Change.{changed-facts, shareOf}
 
@@ -352,7 +352,7 @@ unfolding effect join withList withThread listed newThread admittedAt runnableAt
 admit-facts s k n g d ok =
     let t = newThread s g d in
     let at = withThread s n t in
-    let out = unlisted in
+    let out = unlisted s k n (ok .fresh) in
     let count : s .count < 64 = room s k n (ok .small) out in
     let l : listed (join n at) ≡ listed s ++ n ∷ [] = listed-join at (omega (arith, k .order64)) n in
     let inside : n < length (s .threads) = omega (arith, ok .small, k .threads64) in
@@ -384,10 +384,3 @@ admit-facts s k n g d ok =
             early = r .early;
           };
     })
-  where
-    unlisted : T (not (member n (listed s)))
-    unlisted =
-        by (λ b. member n (listed s) ≡ b → T (not b)) (member n (listed s))
-        (λ q _. clash (admittedAt s n) (is (admittedAt s n) (and-r (ltb n 64) (admittedAt s n) (everyOf-at (λ j. ltb j 64 && admittedAt s j) (listed s) (k .members) n (holds (member n (listed s)) q)))) (ok .fresh))
-        (λ q _. tt)
-        refl

@@ -10,7 +10,7 @@ use lib.ListN.{length}
 use lib.Dec.{T, leb, eqb}
 use borrow.Author.Tests.{eqb-true, eqb-false, leb-false, leb-true}
 use Rattle.order.specs.Lists.{member, without}
-use Rattle.order.proofs.Bools.{by, is, isn't, holds, clash, or-false-r}
+use Rattle.order.proofs.Bools.{by, is, isn't, clash, or-false-r}
 use Rattle.order.proofs.Lists.{sumOf, before, mask, first-before}
 use Rattle.scheduler.specs.declared.Settings.{Settings}
 use Rattle.scheduler.specs.declared.Thread.{Thread}
@@ -21,7 +21,7 @@ use Rattle.scheduler.specs.Refusals.{Call, openGroup, closeGroup, admit,
 use Rattle.scheduler.specs.Effects.{rear, toRear, offList, join, newThread, wokenThread, renewed, chargedThread, charged, exited, reported, chosen, effect}
 use Rattle.scheduler.specs.Rule.{step}
 use Rattle.scheduler.specs.Stretch.{accepted, ticksOf, keepsRunnable}
-use Rattle.scheduler.proofs.Facts.{Facts, facts, in-threads, member-admitted, below-quantum, fits, take-rear, take-off, room, listed-join, thread-other, thread-same}
+use Rattle.scheduler.proofs.Facts.{Facts, facts, in-threads, member-admitted, below-quantum, fits, take-rear, take-off, room, listed-join, thread-other, thread-same, unlisted}
 use Rattle.scheduler.proofs.Gauge.{gauge, gauge-join, gauge-leave, gauge-run, gauge-stay, gauge-off, gauge-rear, gauge-self, gauge-turn, quiet-step, run-step, turn-step}
 use Rattle.scheduler.proofs.Passed.{passes, admit-passed, remove-passed, wake-passed, dispatch-passed, report-passed}
 
@@ -77,7 +77,7 @@ charged-full : (s : Scheduler) (r reason used : ℕ) → r < length (s .threads)
 charged-full s r reason used h e =
     charged-allotment s r reason used h ∙ ap (λ (b : Bool). cond b (reservationAt s r * s .settings .thousandth) (allotmentAt s r - used)) e
 
-woken-allotment : (s : Scheduler) → Facts s → (n : ℕ) → T (admittedAt s n) → (j : ℕ) → allotmentAt (withThread s n (wokenThread s (threadAt s n))) j ≡ allotmentAt s j
+pub woken-allotment : (s : Scheduler) → Facts s → (n : ℕ) → T (admittedAt s n) → (j : ℕ) → allotmentAt (withThread s n (wokenThread s (threadAt s n))) j ≡ allotmentAt s j
 unfolding allotmentAt wokenThread
 woken-allotment s k n a j =
     by (λ b. eqb j n ≡ b → allotmentAt (withThread s n (wokenThread s (threadAt s n))) j ≡ allotmentAt s j) (eqb j n)
@@ -105,26 +105,19 @@ module _ (sel : ℕ → Bool) (x : ℕ) (off : sel x ≡ false) (s : Scheduler) 
   fresh-run n small e z =
       clash (admittedAt s n) (ap (admittedAt s) z ∙ is (admittedAt s (s .running)) ((k .run (λ q. omega arith)) .admitted)) e
 
-  fresh-list : (n : ℕ) → admittedAt s n ≡ false → T (not (member n (listed s)))
-  fresh-list n e =
-      by (λ b. member n (listed s) ≡ b → T (not b)) (member n (listed s))
-      (λ q _. clash (admittedAt s n) (is (admittedAt s n) (member-admitted s k n (holds (member n (listed s)) q))) e)
-      (λ q _. tt)
-      refl
-
   admit-quiet : (n g f : ℕ) → n < 64 → admittedAt s n ≡ false → Quiet sel x s (effect (admit n g f) s) 0
   unfolding effect weight join withList withThread listed allotmentAt
   admit-quiet n g f small e =
       let t = newThread s g f in
       let same : (j : ℕ) → (j ≡ n → ⊥) → allotmentAt (withThread s n t) j ≡ allotmentAt s j = allotment-other s n t in
       let l : listed (join n (withThread s n t)) ≡ listed s ++ n ∷ [] =
-      listed-join (withThread s n t) (omega (arith, room s k n small (fresh-list n e), k .order64)) n in
+      listed-join (withThread s n t) (omega (arith, room s k n small (unlisted s k n e), k .order64)) n in
       record {
         same-settings = refl;
         same-allotment = same x (λ z. fresh-x n e (sym z));
         lighter =
             subst (λ (z : List ℕ). gauge sel x (allotmentAt (withThread s n t)) z (s .running) (s .settings .interval) + 0 ≤ weight sel x s) (sym l)
-            (omega (arith, gauge-join sel x off (s .settings .interval) (listed s) x-in (allotmentAt s) (allotmentAt (withThread s n t)) (s .running) n same (fresh-run n small e) (fresh-x n e) (fresh-list n e)));
+            (omega (arith, gauge-join sel x off (s .settings .interval) (listed s) x-in (allotmentAt s) (allotmentAt (withThread s n t)) (s .running) n same (fresh-run n small e) (fresh-x n e) (unlisted s k n e)));
       }
 
   remove-quiet : (n : ℕ) → T (admittedAt s n) → (n ≡ s .running → ⊥) → (n ≡ x → ⊥) → Quiet sel x s (effect (remove n) s) 0
