@@ -11,3 +11,4 @@ pub mod Preserve
 pub mod Preserved
 pub mod ListRule
 pub mod Growth
+pub mod Example

@@ -134,8 +134,7 @@ pub before-blocked : (s : Scheduler) → refusal dispatch s ≡ 0
 unfolding accept isDispatch chosen passedOver
 before-blocked s e =
     let k = facts s ((passes dispatch s e) .0) in
-    rw (step-state dispatch s e)
-    (
+    rw (step-state dispatch s e) (
       everyOf-map (λ n. not (runnableAt s n)) (blockedAt s) (take (passedOver s) (listed s))
           (λ n m r. blocked-of s k n (member-admitted s k n (member-take n (passedOver s) (listed s) m)) r) (passed-before (runnableAt s) (listed s)),
       passed-at (runnableAt s) (listed s),

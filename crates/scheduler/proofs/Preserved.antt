@@ -1,25 +1,29 @@
--- Opening and closing a group keep a state sound; and so does every accepted call (`preserved`).
+-- Opening and closing a group keep a state sound, and so does every accepted call (`preserved`); a start returns a sound state.
 use Prim.Native.Nat.{ℕ, _+_, _-_, _≤_, _<_}
 use mathlib.Core.Path.{_≡_, refl, sym, ap, subst, _∙_}
-use mathlib.Core.Bool.{Bool, true, false, not, cond, _&&_}
+use mathlib.Core.List.{[]}
+use mathlib.Core.Bool.{Bool, true, false, not, cond, _&&_, _||_}
 use native.Mathlib.Omega.{arith}
 use lib.ListN.{length-set}
 use lib.Seq.{getD-set-same, getD-set-other}
-use lib.Dec.{T, ltb, eqb, lt→ltb}
-use borrow.Author.Tests.{eqb-true, eqb-false, ne-eqb, eq-eqb}
-use Rattle.order.proofs.Bools.{by, and-r, is, holds, clash, deny}
+use lib.Dec.{T, ltb, eqb, lit<, lt→ltb}
+use borrow.Author.Tests.{eqb-true, eqb-false, ne-eqb, eq-eqb, not-false}
+use Rattle.order.specs.Lists.{distinct, everyOf, everyBelow, sumBelow}
+use Rattle.order.proofs.Bools.{by, cases, and-r, is, holds, clash, deny, or-false-l, or-false-r}
 use Rattle.order.proofs.Sums.{everyBelow-at, sum-update}
 use Rattle.scheduler.specs.declared.Group.{Group}
 use Rattle.scheduler.specs.declared.Scheduler.{Scheduler}
 use Rattle.scheduler.specs.State.{noGroup, threadAt, groupAt, admittedAt, blockedAt, runnableAt, reservationAt, openAt, listed, sliceAt, withGroup, isOpen}
-use Rattle.scheduler.specs.Sound.{load, threadIn, childOf, reservedIn, ceilingsIn, sound}
-use Rattle.scheduler.specs.Refusals.{Call, openGroup, closeGroup, admit, remove, wake, dispatch, report, free, refusal}
-use Rattle.scheduler.specs.Effects.{effect}
+use Rattle.scheduler.specs.Sound.{within, settingsOk, load, threadIn, childOf, reservedIn, ceilingsIn, groupOk, groupsOk, threadOk, listOk, runningOk, shapeOk, sound}
+use Rattle.scheduler.specs.Refusals.{Call, openGroup, closeGroup, admit, remove, wake, dispatch, report, _⇒_, free, refusal, startRefusal}
+use Rattle.scheduler.specs.Effects.{effect, started, unstarted}
+use Rattle.scheduler.specs.Rule.{accept, refuse, step, startReply}
 use Rattle.scheduler.specs.Stretch.{accepted}
-use Rattle.scheduler.proofs.Facts.{GroupFacts, Facts, facts, sound-of, open-small, carries}
+use Rattle.scheduler.proofs.Facts.{GroupFacts, Facts, facts, sound-of, open-small, carries, peel}
 use Rattle.scheduler.proofs.Passed.{passes, remove-passed, wake-passed, report-passed, admit-ok, OpenOk, open-ok, CloseOk, close-ok, dispatch-early}
 use Rattle.scheduler.proofs.Tree.{carried}
 use Rattle.scheduler.proofs.Preserve.{wake-facts, remove-facts, report-facts, dispatch-facts, admit-facts}
+use Rattle.scheduler.proofs.ListRule.{step-state, refused-state}
 
 -- what group i adds to the load of group g
 abbrev ceilingOf : ℕ → Group → ℕ → ℕ
@@ -252,3 +256,42 @@ preserved c s e = sound-of (effect c s) (go c e)
         let ok = passes (report reason used) s e in
         let c = report-passed s reason used (ok .1) in
         report-kept s (facts s (ok .0)) reason used (c .0) (c .1)
+
+-- A refused call returns the state it was given.
+pub refused-same : (c : Call) (s : Scheduler) → (refusal c s ≡ 0 → ⊥) → (step c s) .state ≡ s
+unfolding refuse
+refused-same c s ne = rw (refused-state c s ne)
+
+-- So a sound state stays sound through every call, accepted or refused.
+pub stays-sound : (c : Call) (s : Scheduler) → T (sound s) → T (sound ((step c s) .state))
+unfolding accept refuse
+stays-sound c s t =
+    cases (eqb (refusal c s) 0)
+    (λ q. rw (step-state c s (eqb-true (refusal c s) 0 q)) (preserved c s (eqb-true (refusal c s) 0 q)))
+    (λ q. rw (refused-state c s (eqb-false (refusal c s) 0 q)) t)
+
+-- Start.
+
+start-passed : (m p : ℕ) → startRefusal m p ≡ 0 → T (within 1 1000 m) × T (within 1 1000000 p)
+unfolding startRefusal
+start-passed m p e =
+    let c = peel (not (within 1 1000 m) || not (within 1 1000000 p) ⇒ 1) [] (lit< tt) e in (
+      holds (within 1 1000 m) (not-false (within 1 1000 m) (or-false-l (not (within 1 1000 m)) (not (within 1 1000000 p)) (c .0))),
+      holds (within 1 1000000 p) (not-false (within 1 1000000 p) (or-false-r (not (within 1 1000 m)) (not (within 1 1000000 p)) (c .0))),
+    )
+
+-- everything but the settings is computed
+pub started-sound : (m p : ℕ) → T (within 1 1000 m) → T (within 1 1000000 p) → T (sound (started m p))
+unfolding sound shapeOk settingsOk groupsOk groupOk threadOk listOk runningOk load reservedIn ceilingsIn threadIn childOf everyBelow everyOf distinct sumBelow openAt admittedAt listed started within
+started-sound m p a b = rw (is (within 1 1000 m) a, is (within 1 1000000 p) b) tt
+
+-- An accepted start returns a sound state; a refused one a state that is not.
+pub start-sound : (m p : ℕ) → startRefusal m p ≡ 0 → T (sound ((startReply m p) .state))
+unfolding startReply refuse
+start-sound m p e =
+    let c = start-passed m p e in
+    rw e (started-sound m p (c .0) (c .1))
+
+pub unstarted-unsound : sound unstarted ≡ false
+unfolding sound shapeOk settingsOk within unstarted
+unstarted-unsound = refl
