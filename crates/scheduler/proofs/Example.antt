@@ -11,7 +11,7 @@ use Rattle.scheduler.specs.Sound.{within, settingsOk, load, threadIn, ch
 use Rattle.scheduler.specs.Refusals.{Call, admit, wake, dispatch, report, firstOf, free, inUse, checks, refusal}
 use Rattle.scheduler.specs.Effects.{rear, toRear, offList, join, newThread, wokenThread, renewed, chargedThread, charged, exited, reported, chosen, passedOver, effect, started}
 use Rattle.scheduler.specs.Rule.{isDispatch, accept, refuse, step}
-use Rattle.scheduler.specs.Stretch.{trace, final, accepted, ticksOf, named, ticksIn, allTicks, ticksBy, throughout, keepsRunnable, keepsAdmitted, Protected, Present, Shares}
+use Rattle.scheduler.specs.Stretch.{keeps, trace, final, accepted, ticksOf, named, ticksIn, allTicks, ticksBy, throughout, keepsRunnable, keepsAdmitted, Protected, Present, Shares}
 use Rattle.scheduler.proofs.Guarantee.{guarantee}
 
 -- the calls of the paper's listing after its start
@@ -22,7 +22,7 @@ calls =
 
 -- whoever unfolds this unfolds every definition of the rule
 pub computes : Unit {0}
-unfolding calls trace final throughout keepsRunnable keepsAdmitted allTicks ticksBy ticksIn ticksOf accepted named step refusal firstOf checks sound shapeOk settingsOk groupsOk groupOk threadOk listOk runningOk load reservedIn ceilingsIn threadIn childOf free within member distinct without everyOf everyBelow sumBelow first passed admittedAt blockedAt runnableAt reservationAt allotmentAt openAt listed sliceAt inUse withThread withGroup withList withRun rear toRear offList join newThread wokenThread renewed chargedThread charged exited reported chosen passedOver effect started isDispatch accept refuse
+unfolding calls trace final throughout keeps allTicks ticksBy ticksIn ticksOf accepted named step refusal firstOf checks sound shapeOk settingsOk groupsOk groupOk threadOk listOk runningOk load reservedIn ceilingsIn threadIn childOf free within member distinct without everyOf everyBelow sumBelow first passed admittedAt blockedAt runnableAt reservationAt allotmentAt openAt listed sliceAt inUse withThread withGroup withList withRun rear toRear offList join newThread wokenThread renewed chargedThread charged exited reported chosen passedOver effect started isDispatch accept refuse
 computes = tt
 
 -- The state with both threads admitted, and the calls from there: 7 stays runnable and 5 stays admitted.

@@ -20,7 +20,7 @@ use Rattle.scheduler.specs.State.{noThread, noGroup, threadAt, admittedA
 use Rattle.scheduler.specs.Refusals.{Call, openGroup, closeGroup, admit, remove, wake, dispatch, report, firstOf, checks, refusal}
 use Rattle.scheduler.specs.Effects.{rear, toRear, offList, join, newThread, wokenThread, renewed, chargedThread, charged, exited, reported, chosen, effect}
 use Rattle.scheduler.specs.Rule.{step}
-use Rattle.scheduler.specs.Stretch.{accepted, ticksOf, keepsRunnable}
+use Rattle.scheduler.specs.Stretch.{keeps, accepted, ticksOf, keepsRunnable}
 use Rattle.scheduler.proofs.Facts.{Facts, facts, in-threads, member-admitted, below-quantum, fits, take-rear, take-off, room, listed-join, thread-other, thread-same, unlisted}
 use Rattle.scheduler.proofs.Gauge.{gauge, gauge-join, gauge-leave, gauge-run, gauge-stay, gauge-off, gauge-rear, gauge-self, gauge-turn, quiet-step, run-step, turn-step}
 use Rattle.scheduler.proofs.Passed.{passes, admit-passed, remove-passed, wake-passed, dispatch-passed, report-passed}
@@ -280,7 +280,7 @@ module _ (f h : ℕ) (sel : ℕ → Bool) (x : ℕ) (off : sel x ≡ false) (s :
     (guard : Guarded f x s) (sum : sumOf (mask sel (reservationAt s)) (listed s) ≤ h) where
   report-bound : (reason used : ℕ) → Facts s → firstOf (checks (report reason used) s) ≡ 0 → T (keepsRunnable x last (report reason used))
       → StepBound f h sel x s (reported (s .running) reason used s) last used
-  unfolding StepBound checks keepsRunnable
+  unfolding StepBound checks keeps
   report-bound reason used k e keep =
       let ok = report-passed s reason used e in
       let runs = ok .0 in
@@ -302,7 +302,7 @@ module _ (f h : ℕ) (sel : ℕ → Bool) (x : ℕ) (off : sel x ≡ false) (s :
       refl
 
   pub step-bound : (c : Call) → refusal c s ≡ 0 → T (keepsRunnable x last c) → StepBound f h sel x s (effect c s) last (ticksOf c)
-  unfolding effect checks keepsRunnable ticksOf
+  unfolding effect checks keeps ticksOf
   step-bound (openGroup n p c) e keep = quiet-bound f h sel x s (effect (openGroup n p c) s) last (group-quiet sel x s n (record { ceiling = c; parent = p; opened = 1 }))
   step-bound (closeGroup n) e keep = quiet-bound f h sel x s (effect (closeGroup n) s) last (group-quiet sel x s n noGroup)
   step-bound (admit n g d) e keep =
