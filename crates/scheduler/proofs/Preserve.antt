@@ -19,7 +19,7 @@ use Rattle.scheduler.specs.Sound.{load}
 use Rattle.scheduler.specs.Refusals.{admit, remove, wake, dispatch, free}
 use Rattle.scheduler.specs.Effects.{rear, toRear, offList, join, newThread, wokenThread, renewed, chargedThread, charged, exited, reported, chosen, effect}
 use Rattle.scheduler.proofs.Facts.{Fit, ThreadFacts, RunFacts, Facts, carries, settings-facts, take-rear, take-off, length-rear, room, listed-join, thread-other, thread-same, unlisted}
-use Rattle.scheduler.proofs.Passed.{reported-cases, AdmitOk}
+use Rattle.scheduler.proofs.Passed.{not-used-up, reported-cases, AdmitOk}
 use Rattle.scheduler.proofs.Change.{changed-facts, shareOf}
 
 -- Wake, and everything else that changes one thread and not the list.
@@ -95,17 +95,17 @@ wake-facts s k n small a =
 -- Report: the running thread is charged.
 
 fit-charged : (s : Scheduler) (reason used : ℕ) (t : Thread) → 1 ≤ s .settings .thousandth → Fit t (s .settings .thousandth) (s .meter) → Fit (chargedThread s reason used t) (s .settings .thousandth) (s .meter + used)
-unfolding chargedThread renewed
+unfolding chargedThread
 fit-charged s reason used t m1 k = record {
   positive = k .positive;
   at-most = k .at-most;
   some =
-      by (λ b. (eqb reason 2 || leb (t .allotment) used) ≡ b → 1 ≤ cond b (t .reservation * s .settings .thousandth) (t .allotment - used)) (eqb reason 2 || leb (t .allotment) used)
+      by (λ b. renewed reason used t ≡ b → 1 ≤ cond b (t .reservation * s .settings .thousandth) (t .allotment - used)) (renewed reason used t)
       (λ _ _. mul-pos (k .positive) m1)
-      (λ e _. omega (arith, leb-false (t .allotment) used (or-false-r (eqb reason 2) (leb (t .allotment) used) e)))
+      (λ e _. omega (arith, not-used-up reason used t e))
       refl;
   bounded =
-      elim (eqb reason 2 || leb (t .allotment) used) as (λ b. cond b (t .reservation * s .settings .thousandth) (t .allotment - used) ≤ t .reservation * s .settings .thousandth)
+      elim (renewed reason used t) as (λ b. cond b (t .reservation * s .settings .thousandth) (t .allotment - used) ≤ t .reservation * s .settings .thousandth)
       [ true ↦ le-refl (t .reservation * s .settings .thousandth) | false ↦ omega (arith, k .bounded) ];
   anchored = elim (eqb reason 2) as (λ b. t .admission ≤ cond b (s .meter + used) (t .anchor)) [ true ↦ omega (arith, k .anchored, k .past) | false ↦ k .anchored ];
   past = elim (eqb reason 2) as (λ b. cond b (s .meter + used) (t .anchor) ≤ s .meter + used) [ true ↦ le-refl (s .meter + used) | false ↦ omega (arith, k .past) ];

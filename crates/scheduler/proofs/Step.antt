@@ -23,7 +23,7 @@ use Rattle.scheduler.specs.Rule.{step}
 use Rattle.scheduler.specs.Stretch.{keeps, accepted, ticksOf, keepsRunnable}
 use Rattle.scheduler.proofs.Facts.{Facts, facts, in-threads, member-admitted, below-quantum, fits, take-rear, take-off, room, listed-join, thread-other, thread-same, unlisted}
 use Rattle.scheduler.proofs.Gauge.{gauge, gauge-join, gauge-leave, gauge-run, gauge-stay, gauge-off, gauge-rear, gauge-self, gauge-turn, quiet-step, run-step, turn-step}
-use Rattle.scheduler.proofs.Passed.{passes, admit-passed, remove-passed, wake-passed, dispatch-passed, report-passed}
+use Rattle.scheduler.proofs.Passed.{passes, not-used-up, admit-passed, remove-passed, wake-passed, dispatch-passed, report-passed}
 
 -- the potential of x, with the threads that sel picks
 unfoldable pub weight : (ℕ → Bool) → ℕ → Scheduler → ℕ
@@ -65,12 +65,12 @@ unfolding chargedThread reservationAt allotmentAt
 charged-allotment s r reason used h = allotment-same s r (chargedThread s reason used (threadAt s r)) h
 
 -- the charged thread: what is left, or a full allotment
-charged-left : (s : Scheduler) (r reason used : ℕ) → r < length (s .threads) → renewed reason used (threadAt s r) ≡ false
+pub charged-left : (s : Scheduler) (r reason used : ℕ) → r < length (s .threads) → renewed reason used (threadAt s r) ≡ false
     → allotmentAt (withThread s r (chargedThread s reason used (threadAt s r))) r + used ≡ allotmentAt s r
-unfolding chargedThread renewed allotmentAt
+unfolding chargedThread allotmentAt
 charged-left s r reason used h e =
     let q = charged-allotment s r reason used h ∙ ap (λ (b : Bool). cond b (reservationAt s r * s .settings .thousandth) (allotmentAt s r - used)) e in
-    omega (arith, q, leb-false (allotmentAt s r) used (or-false-r (eqb reason 2) (leb (allotmentAt s r) used) e))
+    omega (arith, q, not-used-up reason used (threadAt s r) e)
 
 charged-full : (s : Scheduler) (r reason used : ℕ) → r < length (s .threads) → renewed reason used (threadAt s r) ≡ true
     → allotmentAt (withThread s r (chargedThread s reason used (threadAt s r))) r ≡ reservationAt s r * s .settings .thousandth
@@ -86,7 +86,7 @@ woken-allotment s k n a j =
     refl
 
 wake-quiet : (sel : ℕ → Bool) (x : ℕ) (s : Scheduler) → Facts s → (n : ℕ) → T (admittedAt s n) → Quiet sel x s (effect (wake n) s) 0
-unfolding effect weight listed withThread
+unfolding effect weight listed withThread withList toRear
 wake-quiet sel x s k n a = record {
   same-settings = refl;
   same-allotment = woken-allotment s k n a x;
