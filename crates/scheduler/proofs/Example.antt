@@ -21,7 +21,7 @@ calls =
     ∷ report 0 18001 ∷ report 0 18000 ∷ dispatch ∷ []
 
 -- whoever unfolds this unfolds every definition of the rule
-pub computes : Unit {0}
+unfoldable pub computes : Unit {0}
 unfolding calls trace final throughout keeps allTicks ticksBy ticksIn ticksOf accepted named step refusal firstOf checks sound shapeOk settingsOk groupsOk groupOk threadOk listOk runningOk load reservedIn ceilingsIn threadIn childOf free within member distinct without everyOf everyBelow sumBelow first passed admittedAt blockedAt runnableAt reservationAt allotmentAt openAt listed sliceAt inUse withThread withGroup withList withRun rear toRear offList join newThread wokenThread renewed chargedThread charged exited reported chosen passedOver effect started isDispatch accept refuse
 computes = tt
 
