@@ -12,3 +12,4 @@ pub mod Preserved
 pub mod ListRule
 pub mod Growth
 pub mod Example
+pub mod Replies
