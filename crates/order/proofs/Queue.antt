@@ -12,7 +12,7 @@ use lib.ListN.{length, getD, set, take, drop, length-take, length-drop, take-app
 use lib.Seq.{take-nil, take-all, take-length, drop-length, drop-cons, getD-take, getD-drop, take-take, paste, paste-zero, paste-suc, drop-paste, length-paste, length-paste-head, set-at}
 use lib.Dec.{T, leb, eqb}
 use borrow.Author.Tests.{eqb-true, eqb-false, eq-eqb, ne-eqb, leb-true, leb-false}
-use Rattle.order.specs.Lists.{member, distinct, without, passed}
+use Rattle.order.specs.Lists.{member, distinct, without, passed, everyOf}
 use Rattle.order.specs.Queue.{requeue}
 use Rattle.order.proofs.Bools.{by, and-l, and-r}
 use Rattle.order.proofs.Lists.{without-none}
@@ -47,6 +47,13 @@ passed-most p [] = omega arith
 passed-most p (n ∷ l) =
     let ih = passed-most p l in
     by (λ b. cond b 0 (suc (passed p l)) ≤ suc (length l)) (p n) (λ e. omega arith) (λ e. omega arith)
+
+-- an entry of a list whose entries all pass
+pub everyOf-entry : (p : ℕ → Bool) (l : List ℕ) (i : ℕ) → T (everyOf p l) → i < length l → T (p (getD l i 0))
+unfolding everyOf
+everyOf-entry p [] i t h = absurd (omega arith)
+everyOf-entry p (n ∷ l) zero t h = and-l (p n) (everyOf p l) t
+everyOf-entry p (n ∷ l) (suc i) t h = everyOf-entry p l i (and-r (p n) (everyOf p l) t) (omega arith)
 
 -- What `requeue` leaves.
 

@@ -13,3 +13,4 @@ pub mod ListRule
 pub mod Growth
 pub mod Example
 pub mod Replies
+pub mod Dispatch

@@ -1,7 +1,7 @@
 // Start, and the calls on threads: remove, wake, dispatch and report. Each decides its answer first and then writes the state.
 // A thread number above 63 is refused whatever the entry that stands for it holds.
 ghost use mathlib.Core.Path.{_≡_};
-ghost use mathlib.Core.Bool.{not, cond, _||_};
+ghost use mathlib.Core.Bool.{true, not, cond, _||_};
 ghost use mathlib.Core.List.{[], _∷_};
 ghost use Prim.Native.Nat.{ℕ, min, _≤_};
 ghost use lib.Dec.{ltb, leb, eqb};
@@ -38,6 +38,13 @@ impl Thread {
         }
     }
 
+    // What it may run for at once.
+    fn slice(self, interval: u32) -> u32
+        ensures { λ r. ⌜ r ≡ min (self .allotment) interval ⌝ }
+    {
+        if self.allotment < interval { self.allotment } else { interval }
+    }
+
     fn woken(mut self, meter: u64) -> Self
         ensures { λ r. ⌜ ((s : Scheduler) → s .meter ≡ meter → r ≡ wokenThread s self) ⌝ }
     {
@@ -67,6 +74,22 @@ fn wake_code(ok: bool, number: u64, status: u8) -> u32
     0
 }
 
+// The number that a dispatch is refused with, or 0.
+fn dispatch_code(ok: bool, running: u32, meter: u64) -> u32
+    ensures { λ r. ⌜ r ≡ firstOf ((not ok ⇒ 16) ∷ (not (eqb running 64) ⇒ 12) ∷ (leb 10000000000000 meter ⇒ 15) ∷ []) ⌝ }
+{
+    if !ok {
+        return 16;
+    }
+    if running != Scheduler::THREADS {
+        return 12;
+    }
+    if Scheduler::METER_LIMIT <= meter {
+        return 15;
+    }
+    0
+}
+
 impl Scheduler {
     // Makes a blocked thread runnable.
     pub fn wake(mut self, number: u64) -> Answered
@@ -81,6 +104,53 @@ impl Scheduler {
             let woken = thread.woken(self.meter);
             self.threads[at] = woken;
             answer = Answer::Accepted;
+        }
+        Answered {
+            answer: answer,
+            state: self,
+        }
+    }
+
+    // How many threads stand before the first runnable one: all of them where none is runnable.
+    fn passed(self) -> u32
+        requires { ⌜ sound self ≡ true ⌝ }
+        ensures { λ r. ⌜ r ≡ passedOver self ⌝ }
+    {
+        let count = self.count;
+        let mut i: u32 = 0;
+        while i < count {
+            let number = self.order[i as usize];
+            let status = self.threads[number as usize].status;
+            if status == Thread::RUNNABLE {
+                return i;
+            }
+            i += 1;
+        }
+        i
+    }
+
+    // Takes the first runnable thread of the list.
+    pub fn dispatch(mut self) -> Answered
+        ensures { λ r. ⌜ replyOf r ≡ step dispatch self ⌝ }
+    {
+        let ok = self.sound();
+        let code = dispatch_code(ok, self.running, self.meter);
+        let mut answer = Answer::Refused(code);
+        if code == 0 {
+            let before = self.passed();
+            if before == self.count {
+                answer = Answer::Idle(before);
+            } else {
+                let number = self.order[before as usize];
+                let thread = self.threads[number as usize];
+                let slice = thread.slice(self.settings.interval);
+                self.running = number as u32;
+                answer = Answer::Run {
+                    thread: number as u32,
+                    slice: slice,
+                    before: before,
+                };
+            }
         }
         Answered {
             answer: answer,
