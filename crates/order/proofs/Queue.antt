@@ -55,6 +55,12 @@ everyOf-entry p [] i t h = absurd (omega arith)
 everyOf-entry p (n ∷ l) zero t h = and-l (p n) (everyOf p l) t
 everyOf-entry p (n ∷ l) (suc i) t h = everyOf-entry p l i (and-r (p n) (everyOf p l) t) (omega arith)
 
+-- what stands for a missing entry does not matter where there is one
+pub getD-any : (l : List ℕ) (i d e : ℕ) → i < length l → getD l i d ≡ getD l i e
+getD-any [] i d e h = absurd (omega arith)
+getD-any (n ∷ l) zero d e h = refl
+getD-any (n ∷ l) (suc i) d e h = getD-any l i d e (omega arith)
+
 -- What `requeue` leaves.
 
 pub requeue-none : (x : ℕ) (l : List ℕ) → length l ≤ passed (eqb x) l → requeue x l ≡ l

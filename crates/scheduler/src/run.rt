@@ -42,7 +42,11 @@ impl Thread {
     fn slice(self, interval: u32) -> u32
         ensures { λ r. ⌜ r ≡ min (self .allotment) interval ⌝ }
     {
-        if self.allotment < interval { self.allotment } else { interval }
+        if self.allotment < interval {
+            self.allotment
+        } else {
+            interval
+        }
     }
 
     fn woken(mut self, meter: u64) -> Self
@@ -144,9 +148,10 @@ impl Scheduler {
                 let number = self.order[before as usize];
                 let thread = self.threads[number as usize];
                 let slice = thread.slice(self.settings.interval);
-                self.running = number as u32;
+                let chosen = number as u32;
+                self.running = chosen;
                 answer = Answer::Run {
-                    thread: number as u32,
+                    thread: chosen,
                     slice: slice,
                     before: before,
                 };
