@@ -14,3 +14,4 @@ pub mod Growth
 pub mod Example
 pub mod Replies
 pub mod Dispatch
+pub mod Report

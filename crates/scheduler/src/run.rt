@@ -2,9 +2,11 @@
 // A thread number above 63 is refused whatever the entry that stands for it holds.
 ghost use mathlib.Core.Path.{_≡_};
 ghost use mathlib.Core.Bool.{true, not, cond, _||_};
-ghost use mathlib.Core.List.{[], _∷_};
-ghost use Prim.Native.Nat.{ℕ, min, _≤_};
+ghost use mathlib.Core.List.{[], _∷_, _++_};
+ghost use Prim.Native.Nat.{_-_, _*_, min, _≤_, _<_};
 ghost use lib.Dec.{ltb, leb, eqb};
+ghost use lib.ListN.{take, drop};
+ghost use Rattle.order.specs.Queue.{requeue};
 ghost use Rattle.scheduler.specs.State.{noThread, noGroup};
 ghost use Rattle.scheduler.specs.Sound.{sound};
 ghost use Rattle.scheduler.specs.Refusals.{remove, wake, dispatch, report, _⇒_, firstOf, startRefusal};
@@ -17,6 +19,15 @@ use crate::Group;
 use crate::Scheduler;
 use crate::Settings;
 use crate::Thread;
+
+// The reasons of a report.
+pub const TICK: u64 = 0;
+
+pub const BLOCK: u64 = 1;
+
+pub const YIELD: u64 = 2;
+
+pub const EXIT: u64 = 3;
 
 impl Thread {
     pub const RUNNABLE: u8 = 1;
@@ -57,6 +68,89 @@ impl Thread {
         self.status = Self::RUNNABLE;
         self
     }
+
+    // Whether a report fills the allotment.
+    fn renewed(self, reason: u64, used: u64) -> bool
+        ensures { λ r. ⌜ r ≡ renewed reason used self ⌝ }
+    {
+        if reason == YIELD {
+            return true;
+        }
+        self.allotment as u64 <= used
+    }
+
+    // Whether a report moves the thread to the rear. One that ends it takes it off the list from there.
+    fn moves(self, reason: u64, used: u64) -> bool
+        ensures { λ r. ⌜ r ≡ (eqb reason 3 || renewed reason used self) ⌝ }
+    {
+        if reason == EXIT {
+            return true;
+        }
+        self.renewed(reason, used)
+    }
+
+    // The allotment after a report.
+    fn remaining(self, thousandth: u32, reason: u64, used: u64) -> u32
+        requires { ⌜ thousandth ≤ 1000 ⌝ }
+        ensures { λ r. ⌜ r ≡ cond (renewed reason used self) (self .reservation * thousandth) (self .allotment - used) ⌝ }
+    {
+        if self.renewed(reason, used) {
+            return self.reservation as u32 * thousandth;
+        }
+        self.allotment - used as u32
+    }
+
+    // The thread after a report, which finds the meter at `meter`.
+    fn charged(mut self, meter: u64, thousandth: u32, reason: u64, used: u64) -> Self
+        requires {
+            ⌜ (thousandth ≤ 1000)
+            × (used ≤ 1000000)
+            × (meter ≤ 10000001000000)
+            × (self .ticks ≤ 10000001000000)
+            × (self .since ≤ 10000001000000) ⌝
+        }
+        ensures {
+            λ r. ⌜ ((s : Scheduler) → s .meter ≡ meter → s .settings .thousandth ≡ thousandth
+            → r ≡ cond (eqb reason 3) noThread (chargedThread s reason used self)) ⌝
+        }
+    {
+        if reason == EXIT {
+            return Self::none();
+        }
+        let allotment = self.remaining(thousandth, reason, used);
+        self.allotment = allotment;
+        self.ticks = self.ticks + used;
+        self.since = self.since + used;
+        self.status = Self::RUNNABLE;
+        if reason == YIELD {
+            self.anchor = meter + used;
+            self.since = 0;
+            return self;
+        }
+        if reason == BLOCK {
+            self.status = Self::BLOCKED;
+            return self;
+        }
+        self
+    }
+}
+
+// The list after a report.
+fn requeued(list: [u8; 64], count: usize, number: u8, moves: bool) -> [u8; 64]
+    ensures { λ r. ⌜ r ≡ cond moves (requeue number (take count list) ++ drop count list) list ⌝ }
+{
+    if moves {
+        return order::rear(list, count, number);
+    }
+    list
+}
+
+// The list's length after a report.
+fn count_after(count: u32, reason: u64) -> u32
+    requires { ⌜ 0 < count ⌝ }
+    ensures { λ r. ⌜ r ≡ cond (eqb reason 3) (count - 1) count ⌝ }
+{
+    if reason == EXIT { count - 1 } else { count }
 }
 
 // The number that waking a thread of a status is refused with, or 0.
@@ -90,6 +184,25 @@ fn dispatch_code(ok: bool, running: u32, meter: u64) -> u32
     }
     if Scheduler::METER_LIMIT <= meter {
         return 15;
+    }
+    0
+}
+
+// The number that a report is refused with, or 0.
+fn report_code(ok: bool, running: u32, reason: u64, slice: u32, used: u64) -> u32
+    ensures { λ r. ⌜ r ≡ firstOf ((not ok ⇒ 16) ∷ (eqb running 64 ⇒ 11) ∷ (ltb 3 reason ⇒ 14) ∷ (ltb slice used ⇒ 13) ∷ []) ⌝ }
+{
+    if !ok {
+        return 16;
+    }
+    if running == Scheduler::THREADS {
+        return 11;
+    }
+    if EXIT < reason {
+        return 14;
+    }
+    if (slice as u64) < used {
+        return 13;
     }
     0
 }
@@ -156,6 +269,37 @@ impl Scheduler {
                     before: before,
                 };
             }
+        }
+        Answered {
+            answer: answer,
+            state: self,
+        }
+    }
+
+    // Charges the running thread the ticks used, and ends its run.
+    pub fn report(mut self, reason: u64, used: u64) -> Answered
+        ensures { λ r. ⌜ replyOf r ≡ step (report reason used) self ⌝ }
+    {
+        let ok = self.sound();
+        let running = self.running;
+        let at = (running % 64) as usize;
+        let thread = self.threads[at];
+        let slice = thread.slice(self.settings.interval);
+        let code = report_code(ok, running, reason, slice, used);
+        let mut answer = Answer::Refused(code);
+        if code == 0 {
+            let meter = self.meter;
+            let count = self.count;
+            let list = self.order;
+            let moves = thread.moves(reason, used);
+            let charged = thread.charged(meter, self.settings.thousandth, reason, used);
+            let moved = requeued(list, count as usize, running as u8, moves);
+            self.threads[at] = charged;
+            self.order = moved;
+            self.count = count_after(count, reason);
+            self.running = Self::THREADS;
+            self.meter = meter + used;
+            answer = Answer::Accepted;
         }
         Answered {
             answer: answer,
