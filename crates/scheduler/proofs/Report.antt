@@ -35,24 +35,130 @@ module _ (s : Scheduler) (used meter thousandth a : ℕ) (t : Thread) (e : s .me
 
   pub charged-tick : (reason : ℕ) → Left reason → (reason ≡ 3 → ⊥) → (reason ≡ 2 → ⊥) → (reason ≡ 1 → ⊥)
       → _≡_ {A = Thread} record {
-        admission = t .admission; anchor = t .anchor; ticks = t .ticks + used; since = t .since + used;
-        allotment = a; reservation = t .reservation; group = t .group; status = 1
+        admission = t .admission;
+        anchor = t .anchor;
+        ticks = t .ticks + used;
+        since = t .since + used;
+        allotment = a;
+        reservation = t .reservation;
+        group = t .group;
+        status = 1;
       } (cond (eqb reason 3) noThread (chargedThread s reason used t))
   unfolding chargedThread
   charged-tick reason q x y z = rw (ne-eqb reason 3 x, ne-eqb reason 2 y, ne-eqb reason 1 z, f, q)
 
   pub charged-block : (reason : ℕ) → Left reason → reason ≡ 1
       → _≡_ {A = Thread} record {
-        admission = t .admission; anchor = t .anchor; ticks = t .ticks + used; since = t .since + used;
-        allotment = a; reservation = t .reservation; group = t .group; status = 2
+        admission = t .admission;
+        anchor = t .anchor;
+        ticks = t .ticks + used;
+        since = t .since + used;
+        allotment = a;
+        reservation = t .reservation;
+        group = t .group;
+        status = 2;
       } (cond (eqb reason 3) noThread (chargedThread s reason used t))
   unfolding chargedThread
   charged-block reason q x = rw (q, x, f)
 
   pub charged-yield : (reason : ℕ) → Left reason → reason ≡ 2
       → _≡_ {A = Thread} record {
-        admission = t .admission; anchor = meter + used; ticks = t .ticks + used; since = 0;
-        allotment = a; reservation = t .reservation; group = t .group; status = 1
+        admission = t .admission;
+        anchor = meter + used;
+        ticks = t .ticks + used;
+        since = 0;
+        allotment = a;
+        reservation = t .reservation;
+        group = t .group;
+        status = 1;
       } (cond (eqb reason 3) noThread (chargedThread s reason used t))
   unfolding chargedThread
   charged-yield reason q x = rw (q, x, f, e)
+
+-- The number.
+
+module _ (s : Scheduler) (reason used : ℕ) where
+  -- the checks, with the slice of the thread at j
+  abbrev numberAt : Bool → ℕ → ℕ
+  numberAt ok j = firstOf ((not ok ⇒ 16) ∷ (eqb (s .running) 64 ⇒ 11) ∷ (ltb 3 reason ⇒ 14) ∷ (ltb (min ((threadAt s j) .allotment) (s .settings .interval)) used ⇒ 13) ∷ [])
+
+  at-rest : numberAt (sound s) (s .running % 64) ≡ numberAt (sound s) (s .running)
+  unfolding firstOf
+  at-rest =
+      cases (sound s)
+      (λ w. cases (eqb (s .running) 64)
+      (λ z. rw z)
+      (λ z. ap (numberAt (sound s)) (rest (s .running) (((facts s (holds (sound s) w)) .run (eqb-false (s .running) 64 z)) .small))))
+      (λ w. rw w)
+
+  pub report-number : (ok : Bool) → ok ≡ sound s → (slice : ℕ) → slice ≡ min ((threadAt s (s .running % 64)) .allotment) (s .settings .interval)
+      → firstOf ((not ok ⇒ 16) ∷ (eqb (s .running) 64 ⇒ 11) ∷ (ltb 3 reason ⇒ 14) ∷ (ltb slice used ⇒ 13) ∷ []) ≡ refusal (report reason used) s
+  unfolding refusal checks sliceAt allotmentAt
+  report-number ok e slice q =
+      ap (λ (v : ℕ). firstOf ((not ok ⇒ 16) ∷ (eqb (s .running) 64 ⇒ 11) ∷ (ltb 3 reason ⇒ 14) ∷ (ltb v used ⇒ 13) ∷ [])) q
+      ∙ ap (λ (b : Bool). numberAt b (s .running % 64)) e
+      ∙ at-rest
+
+  -- What soundness gives an accepted report.
+
+  pub record Ready : Type 0 where
+    pub small : s .running < 64
+    pub at : s .running % 64 ≡ s .running
+    pub some : 0 < s .count
+    pub moved : requeue (s .running) (take (s .count) (s .order)) ++ drop (s .count) (s .order) ≡ rear s (s .running)
+    pub thousandth : s .settings .thousandth ≤ 1000
+    pub short : used ≤ 1000000
+    pub meter : s .meter ≤ 10000001000000
+    pub ticks : (threadAt s (s .running % 64)) .ticks ≤ 10000001000000
+    pub since : (threadAt s (s .running % 64)) .since ≤ 10000001000000
+
+  module _ (e : refusal (report reason used) s ≡ 0) where
+    pub ready : Ready
+    unfolding sliceAt listed rear
+    ready =
+        let ok = passes (report reason used) s e in
+        let k = facts s (ok .0) in
+        let p = report-passed s reason used (ok .1) in
+        let r = k .run (p .0) in
+        let t = k .thread (s .running) (r .admitted) in
+        let z = settings-facts (s .settings) (k .settings) in
+        let w = rest (s .running) (r .small) in
+        record {
+          small = r .small;
+          at = w;
+          some = omega (arith, length-without (s .running) (listed s) (k .once) (t .in-list), length-listed s k);
+          moved =
+              ap (λ (l : List ℕ). l ++ drop (s .count) (s .order)) (requeue-once (s .running) (take (s .count) (s .order)) (k .once) (t .in-list))
+              ∙ append-assoc (without (s .running) (listed s)) (s .running ∷ []) (drop (s .count) (s .order));
+          thousandth = z .1;
+          short = omega (arith, p .1, z .3);
+          meter = k .meter;
+          ticks = subst (λ (j : ℕ). (threadAt s j) .ticks ≤ 10000001000000) (sym w) (omega (arith, t .fit .charged, k .meter));
+          since = subst (λ (j : ℕ). (threadAt s j) .since ≤ 10000001000000) (sym w) (omega (arith, t .fit .since, k .meter));
+        }
+
+    -- The new state.
+
+    settled : (exit full : Bool)
+        → stateOf (set (s .threads) (s .running) (cond exit noThread (chargedThread s reason used (threadAt s (s .running))))) (cond (exit || full) (rear s (s .running)) (s .order))
+        (s .groups) (s .meter + used) (s .settings) (cond exit (s .count - 1) (s .count)) 64
+        ≡ cond exit (exited (s .running) used s)
+        (cond full (toRear (s .running) (charged (s .running) reason used s)) (charged (s .running) reason used s))
+    unfolding exited toRear offList charged withList withRun withThread rear listed
+    settled true full = refl
+    settled false true = refl
+    settled false false = refl
+
+    pub report-done : (t : Thread) → t ≡ cond (eqb reason 3) noThread (chargedThread s reason used (threadAt s (s .running % 64)))
+        → (moves : Bool) → moves ≡ (eqb reason 3 || renewed reason used (threadAt s (s .running % 64)))
+        → (list : List ℕ) → list ≡ cond moves (requeue (s .running) (take (s .count) (s .order)) ++ drop (s .count) (s .order)) (s .order)
+        → (count : ℕ) → count ≡ cond (eqb reason 3) (s .count - 1) (s .count)
+        → replyOf (answered Accepted (stateOf (set (s .threads) (s .running % 64) t) list (s .groups) (s .meter + used) (s .settings) count 64))
+        ≡ step (report reason used) s
+    unfolding effect isDispatch reported
+    report-done t q1 moves q2 list q3 count q4 =
+        let at = ready .at in
+        let moved = ready .moved in
+        accepted (report reason used) s (stateOf (set (s .threads) (s .running % 64) t) list (s .groups) (s .meter + used) (s .settings) count 64) refl e
+        ((cc)
+        ∙ settled (eqb reason 3) (renewed reason used (threadAt s (s .running))))

@@ -102,17 +102,13 @@ impl Thread {
 
     // The thread after a report, which finds the meter at `meter`.
     fn charged(mut self, meter: u64, thousandth: u32, reason: u64, used: u64) -> Self
-        requires {
-            ⌜ (thousandth ≤ 1000)
+        requires { ⌜ (thousandth ≤ 1000)
             × (used ≤ 1000000)
             × (meter ≤ 10000001000000)
             × (self .ticks ≤ 10000001000000)
-            × (self .since ≤ 10000001000000) ⌝
-        }
-        ensures {
-            λ r. ⌜ ((s : Scheduler) → s .meter ≡ meter → s .settings .thousandth ≡ thousandth
-            → r ≡ cond (eqb reason 3) noThread (chargedThread s reason used self)) ⌝
-        }
+            × (self .since ≤ 10000001000000) ⌝ }
+        ensures { λ r. ⌜ ((s : Scheduler) → s .meter ≡ meter → s .settings .thousandth ≡ thousandth
+            → r ≡ cond (eqb reason 3) noThread (chargedThread s reason used self)) ⌝ }
     {
         if reason == EXIT {
             return Self::none();
