@@ -1,28 +1,32 @@
 -- From a number and a state to a reply. A call's code finds the refusal's number and, where that is 0, the new state; `refused` and
 -- `accepted` turn these into the reply of `step`. A thread number is looked up at its rest by 64: below 64 that is the number itself, and
 -- above it the call is refused whatever the entry holds.
-use Prim.Native.Nat.{ℕ, _%_, _≤_, _<_}
+use Prim.Native.Nat.{ℕ, _-_, _%_, _≤_, _<_}
 use mathlib.Core.Path.{_≡_, refl, sym, ap, _∙_}
-use mathlib.Core.List.{List, [], _∷_}
+use mathlib.Core.List.{List, [], _∷_, _++_, append-assoc}
 use mathlib.Core.Bool.{Bool, true, false, not, cond, _||_}
 use native.Mathlib.Omega.{arith}
-use lib.ListN.{set}
+use lib.ListN.{set, take, drop}
 use lib.Dec.{T, ltb, eqb}
 use borrow.Author.Tests.{ltb-false}
+use Rattle.order.specs.Lists.{without}
+use Rattle.order.specs.Queue.{requeue}
 use Rattle.order.proofs.Bools.{cases}
+use Rattle.order.proofs.Lists.{length-without}
+use Rattle.order.proofs.Queue.{requeue-once}
 use Rattle.scheduler.specs.declared.Thread.{Thread}
 use Rattle.scheduler.specs.declared.Scheduler.{Scheduler}
 use Rattle.scheduler.specs.declared.Answer.{Answer}
 use Rattle.scheduler.specs.declared.Answer.the-variants.{Accepted, Refused}
 use Rattle.scheduler.specs.declared.Answered.{Answered}
-use Rattle.scheduler.specs.State.{threadAt, admittedAt, blockedAt, isAdmitted, isBlocked, withThread}
+use Rattle.scheduler.specs.State.{noThread, threadAt, admittedAt, blockedAt, isAdmitted, isBlocked, listed, stateOf, withThread, withList}
 use Rattle.scheduler.specs.Sound.{sound}
 use Rattle.scheduler.specs.Refusals.{Call, wake, remove, _⇒_, firstOf, checks, refusal}
-use Rattle.scheduler.specs.Effects.{wokenThread, effect}
+use Rattle.scheduler.specs.Effects.{rear, offList, wokenThread, effect}
 use Rattle.scheduler.specs.Rule.{isDispatch, accept, refuse, step}
 use Rattle.scheduler.specs.Answers.{lineOf, replyOf}
-use Rattle.scheduler.proofs.Facts.{Facts, facts}
-use Rattle.scheduler.proofs.Passed.{passes, wake-passed}
+use Rattle.scheduler.proofs.Facts.{Facts, facts, length-listed}
+use Rattle.scheduler.proofs.Passed.{passes, remove-passed, wake-passed}
 use Rattle.scheduler.proofs.ListRule.{step-state, refused-state}
 
 abbrev pub answered : Answer → Scheduler → Answered
@@ -50,7 +54,27 @@ looked-up s n more =
     (λ e. rw e)
     (λ e. ap (λ (j : ℕ). cond (ltb 63 n || not (isAdmitted (threadAt s j))) 7 (more (threadAt s j))) (rest n (omega (arith, ltb-false 63 n e))))
 
--- Wake.
+-- what the list gives an admitted thread
+pub record Listed (s : Scheduler) (n : ℕ) : Type 0 where
+  pub small : n < 64
+  pub at : n % 64 ≡ n
+  pub some : 0 < s .count
+  pub moved : requeue n (take (s .count) (s .order)) ++ drop (s .count) (s .order) ≡ rear s n
+
+pub is-listed : (s : Scheduler) → Facts s → (n : ℕ) → T (admittedAt s n) → Listed s n
+unfolding listed rear
+is-listed s k n a =
+    let t = k .thread n a in
+    record {
+      small = t .small;
+      at = rest n (t .small);
+      some = omega (arith, length-without n (listed s) (k .once) (t .in-list), length-listed s k);
+      moved =
+          ap (λ (l : List ℕ). l ++ drop (s .count) (s .order)) (requeue-once n (listed s) (k .once) (t .in-list))
+          ∙ append-assoc (without n (listed s)) (n ∷ []) (drop (s .count) (s .order));
+    }
+
+-- Remove and wake.
 
 module _ (s : Scheduler) (n : ℕ) where
   pub wake-number : (ok : Bool) → ok ≡ sound s
@@ -59,6 +83,29 @@ module _ (s : Scheduler) (n : ℕ) where
   wake-number ok e =
       ap (λ (b : Bool). cond (not b) 16 (cond (ltb 63 n || not (isAdmitted (threadAt s (n % 64)))) 7 (cond (not (isBlocked (threadAt s (n % 64)))) 10 0))) e
       ∙ ap (λ (k : ℕ). cond (not (sound s)) 16 k) (looked-up s n (λ t. cond (not (isBlocked t)) 10 0))
+
+  pub remove-number : (ok : Bool) → ok ≡ sound s
+      → firstOf ((not ok ⇒ 16) ∷ (ltb 63 n || not (isAdmitted (threadAt s (n % 64))) ⇒ 7) ∷ (eqb (s .running) n ⇒ 9) ∷ []) ≡ refusal (remove n) s
+  unfolding refusal checks firstOf admittedAt
+  remove-number ok e =
+      ap (λ (b : Bool). cond (not b) 16 (cond (ltb 63 n || not (isAdmitted (threadAt s (n % 64)))) 7 (cond (eqb (s .running) n) 9 0))) e
+      ∙ ap (λ (k : ℕ). cond (not (sound s)) 16 k) (looked-up s n (λ t. cond (eqb (s .running) n) 9 0))
+
+  module _ (e : refusal (remove n) s ≡ 0) where
+    pub remove-listed : Listed s n
+    remove-listed =
+        let ok = passes (remove n) s e in
+        is-listed s (facts s (ok .0)) n ((remove-passed s n (ok .1)) .0)
+
+    pub remove-done : (t : Thread) → t ≡ noThread → (list : List ℕ) → list ≡ requeue n (take (s .count) (s .order)) ++ drop (s .count) (s .order)
+        → replyOf (answered Accepted (stateOf (set (s .threads) (n % 64) t) list (s .groups) (s .meter) (s .settings) (s .count - 1) (s .running))) ≡ step (remove n) s
+    unfolding effect isDispatch offList withList withThread rear listed
+    remove-done t q list l =
+        let w = remove-listed in
+        accepted (remove n) s (stateOf (set (s .threads) (n % 64) t) list (s .groups) (s .meter) (s .settings) (s .count - 1) (s .running)) refl e
+        (ap (λ (o : List ℕ). stateOf (set (s .threads) (n % 64) t) o (s .groups) (s .meter) (s .settings) (s .count - 1) (s .running)) (l ∙ w .moved)
+        ∙ ap (λ (x : Thread). stateOf (set (s .threads) (n % 64) x) (rear s n) (s .groups) (s .meter) (s .settings) (s .count - 1) (s .running)) q
+        ∙ ap (λ (j : ℕ). stateOf (set (s .threads) j noThread) (rear s n) (s .groups) (s .meter) (s .settings) (s .count - 1) (s .running)) (w .at))
 
   pub wake-done : refusal (wake n) s ≡ 0 → (t : Thread) → t ≡ wokenThread s (threadAt s (n % 64)) → replyOf (answered Accepted (withThread s (n % 64) t)) ≡ step (wake n) s
   unfolding effect isDispatch

@@ -2,17 +2,14 @@
 -- decides; what soundness gives an accepted report; and the whole new state, which is `reported`.
 use Prim.Native.Nat.{ℕ, zero, suc, _+_, _-_, _*_, _%_, min, _≤_, _<_}
 use mathlib.Core.Path.{_≡_, refl, sym, ap, subst, _∙_}
-use mathlib.Core.List.{List, [], _∷_, _++_, append-assoc}
+use mathlib.Core.List.{List, [], _∷_, _++_}
 use mathlib.Core.Bool.{Bool, true, false, not, cond, _||_}
 use native.Mathlib.Omega.{arith}
 use lib.ListN.{length, take, drop, set}
 use lib.Dec.{T, ltb, leb, eqb}
 use borrow.Author.Tests.{eqb-false, ne-eqb}
-use Rattle.order.specs.Lists.{without}
 use Rattle.order.specs.Queue.{requeue}
 use Rattle.order.proofs.Bools.{cases, holds}
-use Rattle.order.proofs.Lists.{length-without}
-use Rattle.order.proofs.Queue.{requeue-once}
 use Rattle.scheduler.specs.declared.Thread.{Thread}
 use Rattle.scheduler.specs.declared.Scheduler.{Scheduler}
 use Rattle.scheduler.specs.declared.Answer.the-variants.{Accepted}
@@ -22,9 +19,9 @@ use Rattle.scheduler.specs.Refusals.{report, _⇒_, firstOf, checks, ref
 use Rattle.scheduler.specs.Effects.{rear, toRear, offList, renewed, chargedThread, charged, exited, reported, effect}
 use Rattle.scheduler.specs.Rule.{isDispatch, step}
 use Rattle.scheduler.specs.Answers.{replyOf}
-use Rattle.scheduler.proofs.Facts.{Facts, facts, settings-facts, length-listed}
+use Rattle.scheduler.proofs.Facts.{facts, settings-facts}
 use Rattle.scheduler.proofs.Passed.{passes, report-passed}
-use Rattle.scheduler.proofs.Replies.{answered, accepted, rest}
+use Rattle.scheduler.proofs.Replies.{answered, accepted, rest, Listed, is-listed}
 
 -- The thread after a report.
 
@@ -102,10 +99,7 @@ module _ (s : Scheduler) (reason used : ℕ) where
   -- What soundness gives an accepted report.
 
   pub record Ready : Type 0 where
-    pub small : s .running < 64
-    pub at : s .running % 64 ≡ s .running
-    pub some : 0 < s .count
-    pub moved : requeue (s .running) (take (s .count) (s .order)) ++ drop (s .count) (s .order) ≡ rear s (s .running)
+    pub list : Listed s (s .running)
     pub thousandth : s .settings .thousandth ≤ 1000
     pub short : used ≤ 1000000
     pub meter : s .meter ≤ 10000001000000
@@ -114,7 +108,7 @@ module _ (s : Scheduler) (reason used : ℕ) where
 
   module _ (e : refusal (report reason used) s ≡ 0) where
     pub ready : Ready
-    unfolding sliceAt listed rear
+    unfolding sliceAt
     ready =
         let ok = passes (report reason used) s e in
         let k = facts s (ok .0) in
@@ -122,19 +116,14 @@ module _ (s : Scheduler) (reason used : ℕ) where
         let r = k .run (p .0) in
         let t = k .thread (s .running) (r .admitted) in
         let z = settings-facts (s .settings) (k .settings) in
-        let w = rest (s .running) (r .small) in
+        let l = is-listed s k (s .running) (r .admitted) in
         record {
-          small = r .small;
-          at = w;
-          some = omega (arith, length-without (s .running) (listed s) (k .once) (t .in-list), length-listed s k);
-          moved =
-              ap (λ (l : List ℕ). l ++ drop (s .count) (s .order)) (requeue-once (s .running) (take (s .count) (s .order)) (k .once) (t .in-list))
-              ∙ append-assoc (without (s .running) (listed s)) (s .running ∷ []) (drop (s .count) (s .order));
+          list = l;
           thousandth = z .1;
           short = omega (arith, p .1, z .3);
           meter = k .meter;
-          ticks = subst (λ (j : ℕ). (threadAt s j) .ticks ≤ 10000001000000) (sym w) (omega (arith, t .fit .charged, k .meter));
-          since = subst (λ (j : ℕ). (threadAt s j) .since ≤ 10000001000000) (sym w) (omega (arith, t .fit .since, k .meter));
+          ticks = subst (λ (j : ℕ). (threadAt s j) .ticks ≤ 10000001000000) (sym (l .at)) (omega (arith, t .fit .charged, k .meter));
+          since = subst (λ (j : ℕ). (threadAt s j) .since ≤ 10000001000000) (sym (l .at)) (omega (arith, t .fit .since, k .meter));
         }
 
     -- The new state.
@@ -157,8 +146,8 @@ module _ (s : Scheduler) (reason used : ℕ) where
         ≡ step (report reason used) s
     unfolding effect isDispatch reported
     report-done t q1 moves q2 list q3 count q4 =
-        let at = ready .at in
-        let moved = ready .moved in
+        let at = ready .list .at in
+        let moved = ready .list .moved in
         accepted (report reason used) s (stateOf (set (s .threads) (s .running % 64) t) list (s .groups) (s .meter + used) (s .settings) count 64) refl e
         ((cc)
         ∙ settled (eqb reason 3) (renewed reason used (threadAt s (s .running))))

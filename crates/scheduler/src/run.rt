@@ -149,6 +149,44 @@ fn count_after(count: u32, reason: u64) -> u32
     if reason == EXIT { count - 1 } else { count }
 }
 
+// The number that a start is refused with, or 0.
+fn start_code(thousandth: u64, interval: u64) -> u32
+    ensures { λ r. ⌜ r ≡ startRefusal thousandth interval ⌝ }
+{
+    if thousandth < 1 {
+        return 1;
+    }
+    if (Settings::THOUSANDTH_MOST as u64) < thousandth {
+        return 1;
+    }
+    if interval < 1 {
+        return 1;
+    }
+    if (Settings::INTERVAL_MOST as u64) < interval {
+        return 1;
+    }
+    0
+}
+
+// The number that removing a thread of a status is refused with, or 0.
+fn remove_code(ok: bool, number: u64, status: u8, running: u32) -> u32
+    ensures { λ r. ⌜ r ≡ firstOf ((not ok ⇒ 16) ∷ (ltb 63 number || not (ltb 0 status) ⇒ 7) ∷ (eqb running number ⇒ 9) ∷ []) ⌝ }
+{
+    if !ok {
+        return 16;
+    }
+    if Scheduler::THREADS as u64 <= number {
+        return 7;
+    }
+    if status == 0 {
+        return 7;
+    }
+    if running as u64 == number {
+        return 9;
+    }
+    0
+}
+
 // The number that waking a thread of a status is refused with, or 0.
 fn wake_code(ok: bool, number: u64, status: u8) -> u32
     ensures { λ r. ⌜ r ≡ firstOf ((not ok ⇒ 16) ∷ (ltb 63 number || not (ltb 0 status) ⇒ 7) ∷ (not (eqb status 2) ⇒ 10) ∷ []) ⌝ }
@@ -204,6 +242,84 @@ fn report_code(ok: bool, running: u32, reason: u64, slice: u32, used: u64) -> u3
 }
 
 impl Scheduler {
+    // All zeros, which is no sound state.
+    fn unstarted() -> Self
+        ensures { λ r. ⌜ r ≡ unstarted ⌝ }
+    {
+        let thread = Thread::none();
+        let group = Group {
+            ceiling: 0,
+            parent: 0,
+            opened: 0,
+        };
+        let settings = Settings {
+            thousandth: 0,
+            interval: 0,
+        };
+        Self {
+            threads: [thread; 64],
+            order: [0; 64],
+            groups: [group; 16],
+            meter: 0,
+            settings: settings,
+            count: 0,
+            running: 0,
+        }
+    }
+
+    // A state with these settings and no threads.
+    pub fn start(thousandth: u64, interval: u64) -> Answered
+        ensures { λ r. ⌜ replyOf r ≡ startReply thousandth interval ⌝ }
+    {
+        let code = start_code(thousandth, interval);
+        let mut answer = Answer::Refused(code);
+        let mut state = Self::unstarted();
+        if code == 0 {
+            let root = Group {
+                ceiling: Self::WHOLE as u16,
+                parent: 0,
+                opened: 1,
+            };
+            let settings = Settings {
+                thousandth: thousandth as u32,
+                interval: interval as u32,
+            };
+            state.groups[0] = root;
+            state.settings = settings;
+            state.running = Self::THREADS;
+            answer = Answer::Accepted;
+        }
+        Answered {
+            answer: answer,
+            state: state,
+        }
+    }
+
+    // Takes a thread off the list and frees its number and reservation.
+    pub fn remove(mut self, number: u64) -> Answered
+        ensures { λ r. ⌜ replyOf r ≡ step (remove number) self ⌝ }
+    {
+        let ok = self.sound();
+        let at = (number % 64) as usize;
+        let status = self.threads[at].status;
+        let code = remove_code(ok, number, status, self.running);
+        let mut answer = Answer::Refused(code);
+        if code == 0 {
+            let count = self.count;
+            let list = self.order;
+            let moved = order::rear(list, count as usize, number as u8);
+            let none = Thread::none();
+            self.threads[at] = none;
+            self.order = moved;
+            self.count = count - 1;
+            answer = Answer::Accepted;
+        }
+        Answered {
+            answer: answer,
+            state: self,
+        }
+    }
+
     // Makes a blocked thread runnable.
     pub fn wake(mut self, number: u64) -> Answered
         ensures { λ r. ⌜ replyOf r ≡ step (wake number) self ⌝ }

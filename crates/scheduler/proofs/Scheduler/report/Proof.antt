@@ -62,7 +62,7 @@ cast-requeued : tie.Need-cast-requeued
 cast-requeued c = search needs
 
 cast-requeued-2 : tie.Need-cast-requeued-2
-cast-requeued-2 c = let r = bounds (c .before .before .before) in omega arith
+cast-requeued-2 c = let l = (bounds (c .before .before .before)) .list in omega arith
 
 requeued-requires : tie.Need-requeued-requires
 requeued-requires c κs = search needs
@@ -74,7 +74,7 @@ element-set-from-charged : tie.Need-element-set-from-charged
 element-set-from-charged c = search needs
 
 count-after-requires : tie.Need-count-after-requires
-count-after-requires c κs = (bounds (c .before .before .before .before)) .some
+count-after-requires c κs = (bounds (c .before .before .before .before)) .list .some
 
 add-self : tie.Need-add-self
 add-self c = let r = bounds (c .before .before .before .before .before) in omega arith
