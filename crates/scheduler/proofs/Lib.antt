@@ -15,3 +15,4 @@ pub mod Example
 pub mod Replies
 pub mod Dispatch
 pub mod Report
+pub mod Started
