@@ -12,3 +12,7 @@ pub mod Preserved
 pub mod ListRule
 pub mod Growth
 pub mod Example
+pub mod Replies
+pub mod Dispatch
+pub mod Report
+pub mod Started

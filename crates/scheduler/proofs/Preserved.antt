@@ -272,7 +272,7 @@ stays-sound c s t =
 
 -- Start.
 
-start-passed : (m p : ℕ) → startRefusal m p ≡ 0 → T (within 1 1000 m) × T (within 1 1000000 p)
+pub start-passed : (m p : ℕ) → startRefusal m p ≡ 0 → T (within 1 1000 m) × T (within 1 1000000 p)
 unfolding startRefusal
 start-passed m p e =
     let c = peel (not (within 1 1000 m) || not (within 1 1000000 p) ⇒ 1) [] (lit< tt) e in (

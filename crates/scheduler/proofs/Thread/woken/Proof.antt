@@ -1,0 +1,13 @@
+-- `woken` meets its contract.
+use mathlib.Core.Path.{_≡_, sym, ap}
+use Prim.Native.Nat.{ℕ}
+use Rattle.scheduler.specs.Effects.{wokenThread}
+use Rattle.scheduler.proofs.Thread.woken.Statement.{statement}
+use Rattle.scheduler.proofs.Thread.woken.Tie as tie
+
+returns : tie.Need-returns
+unfolding wokenThread
+returns c = λ s e. rw e
+
+pub woken-spec : {M : Type 1} → statement M
+woken-spec = tie.close (tie.spec returns)
