@@ -2,6 +2,8 @@
 ghost use mathlib.Core.Path.{_≡_};
 ghost use Rattle.scheduler.specs.State.{defaultSettings};
 
+pub mod priority;
+
 // The settings: m, the ticks per thousandth of the virtual time quantum, and P, the preemption interval in ticks.
 #[repr(C)]
 pub struct Settings {
