@@ -1,1 +1,5 @@
 pub mod Facts
+pub mod Passed
+pub mod Tree
+pub mod Reserve
+pub mod ReserveCodes
