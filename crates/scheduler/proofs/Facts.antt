@@ -11,7 +11,7 @@ use lib.Seq.{getD-set-same, getD-set-other, take-at, take-suc-set, length-take-l
 use lib.Dec.{T, ltb, leb, eqb, ltb→lt, leb→le, eqb→eq, lt→ltb, le→leb}
 use borrow.Author.Tests.{eqb-true, eqb-false, ne-eqb, eq-eqb, ltb-false, lt-ltb}
 use Rattle.order.specs.Lists.{member, distinct, without, everyOf, everyBelow}
-use Rattle.order.proofs.Bools.{by, and-l, and-r, both, is, isn't, holds, implies, implied}
+use Rattle.order.proofs.Bools.{by, and-l, and-r, both, is, isn't, holds, clash, implies, implied}
 use Rattle.order.proofs.Lists.{everyOf-at, everyOf-map, length-without, pigeons}
 use Rattle.order.proofs.Sums.{everyBelow-at, everyBelow-of}
 use Rattle.scheduler.specs.declared.Thread.{Thread}
@@ -279,6 +279,14 @@ in-threads s k n a = omega (arith, k .threads64, (k .thread n a) .small)
 -- a thread in the list is admitted
 pub member-admitted : (s : Scheduler) → Facts s → (n : ℕ) → T (member n (listed s)) → T (admittedAt s n)
 member-admitted s k n m = and-r (ltb n 64) (admittedAt s n) (everyOf-at (λ j. ltb j 64 && reservedAt s j) (listed s) (k .members) n m)
+
+-- and one that is not admitted is not in the list
+pub unlisted : (s : Scheduler) → Facts s → (n : ℕ) → admittedAt s n ≡ false → T (not (member n (listed s)))
+unlisted s k n e =
+    by (λ b. member n (listed s) ≡ b → T (not b)) (member n (listed s))
+    (λ q _. clash (admittedAt s n) (is (admittedAt s n) (member-admitted s k n (holds (member n (listed s)) q))) e)
+    (λ q _. tt)
+    refl
 
 pub below-quantum : (s : Scheduler) → Facts s → (n : ℕ) → T (admittedAt s n) → allotmentAt s n ≤ reservationAt s n * s .settings .thousandth
 unfolding allotmentAt reservationAt

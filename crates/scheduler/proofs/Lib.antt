@@ -1,5 +1,16 @@
 pub mod Facts
 pub mod Passed
 pub mod Tree
+pub mod Gauge
+pub mod Step
+pub mod Keep
+pub mod Share
+pub mod Guarantee
+pub mod Change
+pub mod Preserve
+pub mod Preserved
+pub mod ListRule
+pub mod Growth
+pub mod Example
 pub mod Reserve
 pub mod ReserveCodes

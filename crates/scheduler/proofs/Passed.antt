@@ -1,12 +1,13 @@
 -- What the checks of an accepted call say, call by call; and the three ways a report can end.
 use Prim.Native.Nat.{ℕ, _≤_, _<_}
 use mathlib.Core.Path.{_≡_, sym}
-use mathlib.Core.Bool.{false, not, cond, _&&_, _||_}
+use mathlib.Core.Bool.{true, false, not, cond, _&&_, _||_}
 use native.Mathlib.Omega.{arith}
 use lib.Dec.{T, ltb, leb, eqb, lit<, leb→le}
 use borrow.Author.Tests.{eqb-true, eqb-false, ltb-false, leb-false, not-false}
 use Rattle.order.specs.Lists.{everyBelow, passed}
-use Rattle.order.proofs.Bools.{by, and-l, and-r, holds, or-false-l, or-false-r}
+use Rattle.order.proofs.Bools.{cases, clash, or-last, by, and-l, and-r, holds, or-false-l, or-false-r}
+use Rattle.scheduler.specs.declared.Thread.{Thread}
 use Rattle.scheduler.specs.declared.Scheduler.{Scheduler}
 use Rattle.scheduler.specs.State.{threadAt, admittedAt, openAt, sliceAt}
 use Rattle.scheduler.specs.Sound.{within, threadIn, childOf, sound}
@@ -152,3 +153,14 @@ reported-cases P r reason used s a b c =
     (λ _ u v w. u tt)
     (λ _ u v w. by (λ d. P (cond d (toRear r (charged r reason used s)) (charged r reason used s))) (renewed reason used (threadAt s r)) (λ _. v tt) (λ _. w tt))
     a b c
+
+-- a thread that is not renewed has something left
+used-up : (reason used : ℕ) (t : Thread) → leb (t .allotment) used ≡ true → renewed reason used t ≡ true
+unfolding renewed
+used-up reason used t q = rw (q, or-last)
+
+pub not-used-up : (reason used : ℕ) (t : Thread) → renewed reason used t ≡ false → used < t .allotment
+not-used-up reason used t e =
+    cases (leb (t .allotment) used)
+    (λ q. absurd (clash (renewed reason used t) (used-up reason used t q) e))
+    (λ q. leb-false (t .allotment) used q)

@@ -7,7 +7,7 @@ use lib.Dec.{leb, eqb}
 use Rattle.order.specs.Lists.{without, first, passed}
 use Rattle.scheduler.specs.declared.Thread.{Thread}
 use Rattle.scheduler.specs.declared.Scheduler.{Scheduler}
-use Rattle.scheduler.specs.State.{noThread, noGroup, threadAt, runnableAt, quantum, listed, withThread, withGroup, withList, withRun}
+use Rattle.scheduler.specs.State.{noThread, noGroup, stateOf, threadAt, runnableAt, quantum, listed, withThread, withGroup, withList, withRun}
 use Rattle.scheduler.specs.Refusals.{Call, openGroup, closeGroup, admit, remove, wake, dispatch, report}
 
 -- "moves to the rear": the others keep their mutual order, and so does what stands past the list's end
@@ -101,24 +101,10 @@ effect (report reason used) s = reported (s .running) reason used s
 
 -- an accepted start: group 0 is open with ceiling 1000, there are no threads, nothing runs, the meter is 0
 unfoldable pub started : ℕ → ℕ → Scheduler
-started m p = record {
-  threads = replicate 64 noThread;
-  order = replicate 64 0;
-  groups = record { ceiling = 1000; parent = 0; opened = 1 } ∷ replicate 15 noGroup;
-  meter = 0;
-  settings = record { thousandth = m; interval = p };
-  count = 0;
-  running = 64;
-}
+started m p =
+    stateOf (replicate 64 noThread) (replicate 64 0) (record { ceiling = 1000; parent = 0; opened = 1 } ∷ replicate 15 noGroup) 0
+    (record { thousandth = m; interval = p }) 0 64
 
 -- what a refused start hands out: all zeros, which is not sound, so that every call on it answers 16
 unfoldable pub unstarted : Scheduler
-unstarted = record {
-  threads = replicate 64 noThread;
-  order = replicate 64 0;
-  groups = replicate 16 noGroup;
-  meter = 0;
-  settings = record { thousandth = 0; interval = 0 };
-  count = 0;
-  running = 0;
-}
+unstarted = stateOf (replicate 64 noThread) (replicate 64 0) (replicate 16 noGroup) 0 (record { thousandth = 0; interval = 0 }) 0 0

@@ -74,47 +74,27 @@ listed s = take (s .count) (s .order)
 unfoldable pub sliceAt : Scheduler → ℕ → ℕ
 sliceAt s n = min (allotmentAt s n) (s .settings .interval)
 
--- The state with one thread, one group, the list or the run replaced.
-unfoldable pub withThread : Scheduler → ℕ → Thread → Scheduler
-withThread s n t = record {
-  threads = set (s .threads) n t;
-  order = s .order;
-  groups = s .groups;
-  meter = s .meter;
-  settings = s .settings;
-  count = s .count;
-  running = s .running;
-}
-
-unfoldable pub withGroup : Scheduler → ℕ → Group → Scheduler
-withGroup s n g = record {
-  threads = s .threads;
-  order = s .order;
-  groups = set (s .groups) n g;
-  meter = s .meter;
-  settings = s .settings;
-  count = s .count;
-  running = s .running;
-}
-
-unfoldable pub withList : Scheduler → List ℕ → ℕ → Scheduler
-withList s order count = record {
-  threads = s .threads;
+-- the state with these fields
+abbrev pub stateOf : List Thread → List ℕ → List Group → ℕ → Settings → ℕ → ℕ → Scheduler
+stateOf threads order groups meter settings count running = record {
+  threads = threads;
   order = order;
-  groups = s .groups;
-  meter = s .meter;
-  settings = s .settings;
-  count = count;
-  running = s .running;
-}
-
-unfoldable pub withRun : Scheduler → ℕ → ℕ → Scheduler
-withRun s running meter = record {
-  threads = s .threads;
-  order = s .order;
-  groups = s .groups;
+  groups = groups;
   meter = meter;
-  settings = s .settings;
-  count = s .count;
+  settings = settings;
+  count = count;
   running = running;
 }
+
+-- the state with one thread, one group, the list or the run replaced
+unfoldable pub withThread : Scheduler → ℕ → Thread → Scheduler
+withThread s n t = stateOf (set (s .threads) n t) (s .order) (s .groups) (s .meter) (s .settings) (s .count) (s .running)
+
+unfoldable pub withGroup : Scheduler → ℕ → Group → Scheduler
+withGroup s n g = stateOf (s .threads) (s .order) (set (s .groups) n g) (s .meter) (s .settings) (s .count) (s .running)
+
+unfoldable pub withList : Scheduler → List ℕ → ℕ → Scheduler
+withList s order count = stateOf (s .threads) order (s .groups) (s .meter) (s .settings) count (s .running)
+
+unfoldable pub withRun : Scheduler → ℕ → ℕ → Scheduler
+withRun s running meter = stateOf (s .threads) (s .order) (s .groups) meter (s .settings) (s .count) running

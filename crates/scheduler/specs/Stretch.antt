@@ -61,25 +61,23 @@ unfoldable pub throughout : (ℕ → Call → Bool) → ℕ → List Event → B
 throughout p last [] = true
 throughout p last (e ∷ es) = (not (accepted e) || p last (e .call)) && throughout p (named last e) es
 
+-- no remove names x, and a report that counts for it has a reason that passes
+unfoldable pub keeps : (ℕ → Bool) → ℕ → ℕ → Call → Bool
+keeps ok x last (openGroup n p c) = true
+keeps ok x last (closeGroup n) = true
+keeps ok x last (admit n g f) = true
+keeps ok x last (remove n) = not (eqb n x)
+keeps ok x last (wake n) = true
+keeps ok x last dispatch = true
+keeps ok x last (report reason u) = not (eqb last x) || ok reason
+
 -- "no accepted remove names it, and every accepted report whose ticks count for it has reason 0"
-unfoldable pub keepsRunnable : ℕ → ℕ → Call → Bool
-keepsRunnable x last (openGroup n p c) = true
-keepsRunnable x last (closeGroup n) = true
-keepsRunnable x last (admit n g f) = true
-keepsRunnable x last (remove n) = not (eqb n x)
-keepsRunnable x last (wake n) = true
-keepsRunnable x last dispatch = true
-keepsRunnable x last (report reason u) = not (eqb last x) || eqb reason 0
+abbrev pub keepsRunnable : ℕ → ℕ → Call → Bool
+keepsRunnable x last c = keeps (λ r. eqb r 0) x last c
 
 -- "no accepted remove names it, and no accepted report whose ticks count for it has reason 3"
-unfoldable pub keepsAdmitted : ℕ → ℕ → Call → Bool
-keepsAdmitted y last (openGroup n p c) = true
-keepsAdmitted y last (closeGroup n) = true
-keepsAdmitted y last (admit n g f) = true
-keepsAdmitted y last (remove n) = not (eqb n y)
-keepsAdmitted y last (wake n) = true
-keepsAdmitted y last dispatch = true
-keepsAdmitted y last (report reason u) = not (eqb last y) || not (eqb reason 3)
+abbrev pub keepsAdmitted : ℕ → ℕ → Call → Bool
+keepsAdmitted y last c = keeps (λ r. not (eqb r 3)) y last c
 
 -- "The first thread stays runnable and does not yield: it is admitted and runnable, running or not, in the first state"
 pub record Protected (s : Scheduler) (cs : List Call) (x : ℕ) : Type 0 where

@@ -1,0 +1,187 @@
+-- Demand 3, the share guarantee: what a thread that stays runnable is owed over a stretch, and what a second thread may take beside it.
+-- Both follow from the induction of Share, once with every other thread counted at the rate 1000 − f, once with the second thread alone
+-- at the rate of its reservation; the potential of a sound state is at most f × h × m + f × P + h × f × m.
+use Prim.Native.Nat.{ℕ, _+_, _-_, _*_, min, _≤_}
+use mathlib.Core.Path.{_≡_, refl, ap, subst}
+use mathlib.Core.List.{List, [], _∷_}
+use mathlib.Core.Bool.{Bool, true, false, not, cond, _&&_, _||_}
+use native.Mathlib.Omega.{arith}
+use native.Mathlib.Nat.{le-refl, mul-le-mul-left, mul-le-mul-right, min-le-left, min-le-right, sub-le}
+use lib.Dec.{T, eqb}
+use borrow.Author.Tests.{eqb-true, eqb-false, ne-eqb, eq-eqb}
+use Rattle.order.specs.Lists.{member, first}
+use Rattle.order.proofs.Bools.{by, and-l, and-r, is}
+use Rattle.order.proofs.Lists.{sumOf, ahead, before, mask, ahead-sumOf, sumOf-le, sumOf-split, sumOf-once, ahead-none}
+use Rattle.scheduler.specs.declared.Scheduler.{Scheduler}
+use Rattle.scheduler.specs.State.{admittedAt, runnableAt, reservationAt, allotmentAt, listed}
+use Rattle.scheduler.specs.Sound.{sound}
+use Rattle.scheduler.specs.Refusals.{Call}
+use Rattle.scheduler.specs.Stretch.{Event, trace, final, accepted, ticksOf, named, ticksIn, allTicks, ticksBy, anyone, throughout, keepsRunnable, keepsAdmitted, Protected, Present, Shares}
+use Rattle.scheduler.proofs.Facts.{Facts, facts, member-admitted, below-quantum, below-whole}
+use Rattle.scheduler.proofs.Gauge.{gauge}
+use Rattle.scheduler.proofs.Step.{weight, potential, Guarded}
+use Rattle.scheduler.proofs.Keep.{runnable-admitted}
+use Rattle.scheduler.proofs.Tree.{listed-most}
+use Rattle.scheduler.proofs.Share.{Reserved, Bound, stretch}
+
+-- ticks of all, in two parts
+ticks-split : (x last : ℕ) (es : List Event) → ticksIn anyone last es ≡ ticksIn (λ n. not (eqb n x)) last es + ticksIn (λ n. eqb n x) last es
+unfolding ticksIn
+ticks-split x last [] = refl
+ticks-split x last (e ∷ es) = omega (arith, ticks-split x (named last e) es, parts (accepted e) (eqb last x) (ticksOf (e .call)))
+  where
+    parts : (a b : Bool) (t : ℕ) → cond (a && true) t 0 ≡ cond (a && not b) t 0 + cond (a && b) t 0
+    parts true true t = omega arith
+    parts true false t = omega arith
+    parts false b t = refl
+
+throughout-map : (p q : ℕ → Call → Bool) → ((last : ℕ) (c : Call) → T (p last c) → T (q last c)) → (last : ℕ) (es : List Event) → T (throughout p last es) → T (throughout q last es)
+unfolding throughout
+throughout-map p q f last [] t = tt
+throughout-map p q f last (e ∷ es) t =
+    both (not (accepted e) || q last (e .call)) (throughout q (named last e) es)
+    (weaken (not (accepted e)) (p last (e .call)) (q last (e .call)) (f last (e .call)) (and-l (not (accepted e) || p last (e .call)) (throughout p (named last e) es) t))
+    (throughout-map p q f (named last e) es (and-r (not (accepted e) || p last (e .call)) (throughout p (named last e) es) t))
+  where
+    both : (a b : Bool) → T a → T b → T (a && b)
+    both true b s t = t
+    both false b s t = s
+
+    weaken : (a b c : Bool) → (T b → T c) → T (a || b) → T (a || c)
+    weaken true b c f t = tt
+    weaken false b c f t = f t
+
+-- Sums of the first state.
+
+allotments : (s : Scheduler) → Facts s → (sel : ℕ → Bool) (h : ℕ) → sumOf (mask sel (reservationAt s)) (listed s) ≤ h → sumOf (mask sel (allotmentAt s)) (listed s) ≤ h * s .settings .thousandth
+allotments s k sel h sum =
+    let a = sumOf-le (s .settings .thousandth) (mask sel (allotmentAt s)) (mask sel (reservationAt s)) (listed s) each in
+    let b = mul-le-mul-right (s .settings .thousandth) sum in
+    omega arith
+  where
+    each : (n : ℕ) → T (member n (listed s)) → mask sel (allotmentAt s) n ≤ mask sel (reservationAt s) n * s .settings .thousandth
+    each n u =
+        elim (sel n) as (λ b. cond b (allotmentAt s n) 0 ≤ cond b (reservationAt s n) 0 * s .settings .thousandth)
+        [ true ↦ below-quantum s k n (member-admitted s k n u) | false ↦ omega arith ]
+
+cond-at-most : (a b : Bool) (n : ℕ) → cond a 0 (cond b n 0) ≤ n
+cond-at-most true b n = omega arith
+cond-at-most false true n = le-refl n
+cond-at-most false false n = omega arith
+
+weight-all : (s : Scheduler) → Facts s → (sel : ℕ → Bool) (x h : ℕ) → sumOf (mask sel (reservationAt s)) (listed s) ≤ h → weight sel x s ≤ h * s .settings .thousandth + s .settings .interval
+unfolding weight gauge
+weight-all s k sel x h sum =
+    let r = s .running in
+    let c = cond-at-most (eqb r 64 || before r x (listed s)) (sel r) (min (allotmentAt s r) (s .settings .interval)) in
+    omega (arith, allotments s k sel h sum, ahead-sumOf x (mask sel (allotmentAt s)) (listed s), min-le-right (allotmentAt s r) (s .settings .interval))
+
+-- one thread is before x, or runs behind it
+weight-one : (s : Scheduler) → Facts s → (x y g : ℕ) → T (admittedAt s y) → reservationAt s y ≡ g → weight (λ n. eqb n y) x s ≤ g * s .settings .thousandth
+unfolding weight gauge
+weight-one s k x y g adm is-g =
+    let l = listed s in
+    let al = allotmentAt s in
+    let p = s .settings .interval in
+    let r = s .running in
+    let sum : sumOf (mask (λ n. eqb n y) (reservationAt s)) l ≤ g = subst (λ (z : ℕ). sumOf (mask (λ n. eqb n y) (reservationAt s)) l ≤ z) is-g (sumOf-once y (reservationAt s) l (k .once)) in
+    let a = allotments s k (λ n. eqb n y) g sum in
+    let b = ahead-sumOf x (mask (λ n. eqb n y) al) l in
+    let own : al y ≤ g * s .settings .thousandth = subst (λ (z : ℕ). al y ≤ z * s .settings .thousandth) is-g (below-quantum s k y adm) in
+    by (λ d. (eqb r 64 || before r x l) ≡ d → ahead x (mask (λ n. eqb n y) al) l + cond d 0 (cond (eqb r y) (min (al r) p) 0) ≤ g * s .settings .thousandth) (eqb r 64 || before r x l)
+    (λ e _. omega arith)
+    (λ e _. by (λ d. ahead x (mask (λ n. eqb n y) al) l + cond d (min (al r) p) 0 ≤ g * s .settings .thousandth) (eqb r y)
+    (λ q.
+    let z = eqb-true r y q in
+    let none = ahead-none x y al l (subst (λ (j : ℕ). before j x l ≡ false) z (or-false (eqb r 64) (before r x l) e)) in
+    omega (arith, min-le-left (al r) p, ap al z))
+    (λ q. omega arith))
+    refl
+  where
+    or-false : (a b : Bool) → (a || b) ≡ false → b ≡ false
+    or-false true b e = absurd (subst T e tt)
+    or-false false b e = e
+
+-- the sums of a stretch, put together
+owed-all : (f h m p W O S G d : ℕ) → f + h ≡ 1000 → W ≡ O + S → d ≤ f * m → f * O ≤ f * G + h * d + h * S → f * G ≤ f * (h * m + p)
+    → f * W ≤ 1000 * S + 2 * f * h * m + f * p
+owed-all f h m p W O S G d whole e u owed w =
+    rw e (omega (arith, mul-le-mul-left h u, ap (λ (z : ℕ). z * S) whole))
+
+owed-one : (f g m O S G d : ℕ) → d ≤ f * m → f * O ≤ f * G + g * d + g * S → f * G ≤ f * (g * m) → f * O ≤ g * S + 2 * f * g * m
+owed-one f g m O S G d u owed w = omega (arith, mul-le-mul-left g u)
+
+-- the others' reservations
+others : (x f : ℕ) (s : Scheduler) → T (sound s) → Guarded f x s → Reserved f x s → sumOf (mask (λ n. not (eqb n x)) (reservationAt s)) (listed s) ≤ 1000 - f
+others x f s t k r =
+    omega (arith, listed-most s (facts s t), sumOf-split x (reservationAt s) (listed s) (((facts s t) .thread x (k .admitted)) .in-list), k .reserved)
+
+pub share : (s : Scheduler) → T (sound s) → (cs : List Call) (x : ℕ) → T (admittedAt s x) → T (runnableAt s x)
+    → T (throughout (keepsRunnable x) (s .running) (trace s cs))
+    → reservationAt s x * allTicks (s .running) (trace s cs)
+    ≤ 1000 * ticksBy x (s .running) (trace s cs)
+    + 2 * reservationAt s x * (1000 - reservationAt s x) * s .settings .thousandth
+    + reservationAt s x * s .settings .interval
+unfolding allTicks ticksBy potential Bound
+share s t cs x adm run keep =
+    let f = reservationAt s x in
+    let h = 1000 - f in
+    let m = s .settings .thousandth in
+    let p = s .settings .interval in
+    let sel : ℕ → Bool = λ n. not (eqb n x) in
+    let es = trace s cs in
+    let last = s .running in
+    let k = facts s t in
+    let small = below-whole s k x adm in
+    let guard : Guarded f x s = record { admitted = adm; runnable = run; reserved = refl } in
+    let res : Reserved f x s = record { admitted = adm; reserved = refl } in
+    let owed : f * ticksIn sel last es + potential f h sel x (final s cs) ≤ potential f h sel x s + h * ticksIn (λ n. eqb n x) last es =
+    stretch f f h sel x x (ap not (eq-eqb x x refl)) (others x f) cs s last (λ _. refl) guard res keep (throughout-map (keepsRunnable x) (keepsAdmitted x) (runnable-admitted x) last es keep) in
+    let w = mul-le-mul-left f (weight-all s k sel x h (others x f s t guard res)) in
+    owed-all f h m p (ticksIn anyone last es) (ticksIn sel last es) (ticksIn (λ n. eqb n x) last es) (weight sel x s) (f * m - allotmentAt s x)
+    (omega arith) (ticks-split x last es) (sub-le (f * m) (allotmentAt s x)) (omega (arith, owed)) w
+
+-- the limit on a second thread needs no sum over the others
+second : (y g : ℕ) (s : Scheduler) → T (sound s) → Reserved g y s → sumOf (mask (λ n. eqb n y) (reservationAt s)) (listed s) ≤ g
+second y g s t r =
+    subst (λ (z : ℕ). sumOf (mask (λ n. eqb n y) (reservationAt s)) (listed s) ≤ z) (r .reserved) (sumOf-once y (reservationAt s) (listed s) ((facts s t) .once))
+
+share-apart : (s : Scheduler) → T (sound s) → (cs : List Call) (x y : ℕ) → (x ≡ y → ⊥) → T (admittedAt s x) → T (runnableAt s x) → T (admittedAt s y)
+    → T (throughout (keepsRunnable x) (s .running) (trace s cs)) → T (throughout (keepsAdmitted y) (s .running) (trace s cs))
+    → reservationAt s x * ticksBy y (s .running) (trace s cs)
+    ≤ reservationAt s y * ticksBy x (s .running) (trace s cs) + 2 * reservationAt s x * reservationAt s y * s .settings .thousandth
+unfolding ticksBy potential Bound
+share-apart s t cs x y apart adm run adm′ keep stays =
+    let f = reservationAt s x in
+    let g = reservationAt s y in
+    let m = s .settings .thousandth in
+    let sel : ℕ → Bool = λ n. eqb n y in
+    let es = trace s cs in
+    let last = s .running in
+    let k = facts s t in
+    let guard : Guarded f x s = record { admitted = adm; runnable = run; reserved = refl } in
+    let res : Reserved g y s = record { admitted = adm′; reserved = refl } in
+    let owed : f * ticksIn sel last es + potential f g sel x (final s cs) ≤ potential f g sel x s + g * ticksIn (λ n. eqb n x) last es =
+    stretch f g g sel x y (ne-eqb x y apart) (λ s t _ r. second y g s t r) cs s last (λ _. refl) guard res keep stays in
+    let w = mul-le-mul-left f (weight-one s k x y g adm′ refl) in
+    owed-one f g m (ticksIn sel last es) (ticksIn (λ n. eqb n x) last es) (weight sel x s) (f * m - allotmentAt s x) (sub-le (f * m) (allotmentAt s x)) (omega (arith, owed)) w
+
+pub share-second : (s : Scheduler) → T (sound s) → (cs : List Call) (x y : ℕ) → T (admittedAt s x) → T (runnableAt s x) → T (admittedAt s y)
+    → T (throughout (keepsRunnable x) (s .running) (trace s cs)) → T (throughout (keepsAdmitted y) (s .running) (trace s cs))
+    → reservationAt s x * ticksBy y (s .running) (trace s cs)
+    ≤ reservationAt s y * ticksBy x (s .running) (trace s cs) + 2 * reservationAt s x * reservationAt s y * s .settings .thousandth
+share-second s t cs x y adm run adm′ keep stays =
+    by (λ b. eqb x y ≡ b → Goal) (eqb x y)
+    (λ e _. subst (λ (z : ℕ). reservationAt s x * ticksBy z (s .running) (trace s cs) ≤ reservationAt s z * ticksBy x (s .running) (trace s cs) + 2 * reservationAt s x * reservationAt s z * s .settings .thousandth) (eqb-true x y e) (omega arith))
+    (λ e _. share-apart s t cs x y (eqb-false x y e) adm run adm′ keep stays)
+    refl
+  where
+    Goal : Type 0
+    Goal = reservationAt s x * ticksBy y (s .running) (trace s cs) ≤ reservationAt s y * ticksBy x (s .running) (trace s cs) + 2 * reservationAt s x * reservationAt s y * s .settings .thousandth
+
+-- Demand 3, for any sound state and any list of calls
+pub guarantee : (s : Scheduler) → T (sound s) → (cs : List Call) (x y : ℕ) → Protected s cs x → Present s cs y → Shares s cs x y
+guarantee s t cs x y px py = record {
+  owed = share s t cs x (px .admitted) (px .runnable) (px .keeps);
+  second = share-second s t cs x y (px .admitted) (px .runnable) (py .admitted) (px .keeps) (py .keeps);
+}

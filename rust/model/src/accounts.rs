@@ -1,0 +1,93 @@
+//! Lag, achieved share and the roster.
+
+use crate::rule::{answer, Scheduler, Thread, BLOCKED, FREE, THREADS};
+
+/// One thread record of the roster.
+#[repr(C)]
+#[derive(Clone, Copy, Debug, PartialEq, Eq, Default)]
+pub struct Entry {
+    pub number: u32,
+    /// 0 runnable, 1 blocked, 2 running.
+    pub state: u32,
+    pub allotment: u32,
+    pub share: u32,
+    pub lag: i64,
+}
+
+/// Lag of an admitted thread of a sound state: at most 1000 times the largest
+/// meter on either side of 0.
+#[inline]
+fn lag_of(t: &Thread, meter: u64) -> i64 {
+    if t.status == BLOCKED {
+        return 0;
+    }
+    let due = t.reservation as u64 * (meter - t.anchor);
+    let had = 1000 * t.since;
+    due as i64 - had as i64
+}
+
+/// Achieved share of an admitted thread of a sound state: at most 1000.
+#[inline]
+fn share_of(t: &Thread, meter: u64) -> u64 {
+    (1000 * t.ticks)
+        .checked_div(meter - t.admission)
+        .unwrap_or(0)
+}
+
+impl Scheduler {
+    fn account(&self, number: u64) -> Result<&Thread, u32> {
+        if !self.sound() {
+            return Err(answer::UNSOUND);
+        }
+        if !self.admitted(number) {
+            return Err(answer::THREAD);
+        }
+        Ok(&self.threads[number as usize])
+    }
+
+    /// f × (meter since the anchor) − 1000 × (ticks since the anchor), and 0
+    /// while blocked. 16 on an unsound state, 7 where not admitted.
+    pub fn lag(&self, number: u64) -> Result<i64, u32> {
+        self.account(number).map(|t| lag_of(t, self.meter))
+    }
+
+    /// 1000 × ticks since admission divided by the meter's growth since then,
+    /// rounded down, and 0 without growth. 16 and 7 as in [`Scheduler::lag`].
+    pub fn share(&self, number: u64) -> Result<u64, u32> {
+        self.account(number).map(|t| share_of(t, self.meter))
+    }
+
+    /// Fills the table with every admitted thread, largest lag first, equal
+    /// lags by lower number. Records past the last stay as they were.
+    pub fn roster(&self, table: &mut [Entry]) -> u32 {
+        if !self.sound() {
+            return answer::UNSOUND;
+        }
+        let count = self.count as usize;
+        if table.len() < count {
+            return answer::LENGTH;
+        }
+        let table = &mut table[..count];
+        let mut filled = 0;
+        for n in 0..THREADS {
+            let t = &self.threads[n];
+            if t.status == FREE {
+                continue;
+            }
+            table[filled] = Entry {
+                number: n as u32,
+                state: if n as u32 == self.running {
+                    2
+                } else {
+                    (t.status == BLOCKED) as u32
+                },
+                allotment: t.allotment,
+                share: share_of(t, self.meter) as u32,
+                lag: lag_of(t, self.meter),
+            };
+            filled += 1;
+        }
+        table.sort_unstable_by(|x, y| y.lag.cmp(&x.lag).then(x.number.cmp(&y.number)));
+        answer::ACCEPTED
+    }
+}
