@@ -14,3 +14,4 @@ pub mod Growth
 pub mod Example
 pub mod Reserve
 pub mod ReserveCodes
+pub mod ReserveTree

@@ -7,3 +7,4 @@ pub mod Answers
 pub mod Accounts
 pub mod Stretch
 pub mod Tree
+pub mod Subtree

@@ -1,20 +1,17 @@
 -- `Group::takes` meets its contract.
-use borrow.Author.Tests.{eq-eqb, ne-eqb}
+use mathlib.Core.Path.{sym, _∙_}
 use borrow.Author.Needs.{needs}
 use Rattle.scheduler.proofs.Group.takes.Statement.{statement}
 use Rattle.scheduler.proofs.Group.takes.Tie as tie
 
-cast-if2 : tie.Need-cast-if2
-cast-if2 c = search needs
+under-requires : tie.Need-under-requires
+under-requires c κs = search needs
 
 returns : tie.Need-returns
-returns c = rw (eq-eqb _ _ (c .before .before .if1 .taken), eq-eqb _ _ (c .if2 .taken))
+returns c = rw (sym (c .before .under .ensures) ∙ c .if1 .taken)
 
 returns-2 : tie.Need-returns-2
-returns-2 c = rw (eq-eqb _ _ (c .before .before .if1 .taken), ne-eqb _ _ (c .if2 .left))
-
-returns-3 : tie.Need-returns-3
-returns-3 c = rw (ne-eqb _ _ (c .if1 .left))
+returns-2 c = rw (sym (c .before .under .ensures) ∙ c .if1 .left)
 
 pub takes-spec : {M : Type 1} → statement M
-takes-spec = tie.close (tie.spec cast-if2 returns returns-2 returns-3)
+takes-spec = tie.close (tie.spec under-requires returns returns-2)

@@ -33,7 +33,7 @@ module _ (c : tie.After-number-code) where
   call = admit N (c .before .before .args .group) (c .before .before .args .reservation)
 
   first : c .number-code .result ≡ numberChecks (sound S) N
-  first = c .number-code .ensures ∙ ap (λ (b : Bool). numberChecks b N) (c .before .sound .ensures)
+  first = c .number-code .ensures ∙ ap (λ (b : Bool). numberChecks b N) (c .before .tested .ensures .test)
 
 close-by : (c : tie.Then1) → Near (sound (S (c .before))) (N (c .before))
 close-by c = near (sound (S (c .before))) (N (c .before)) (sym (first (c .before)) ∙ c .if1 .taken)
@@ -46,9 +46,10 @@ module _ (c : tie.After-admit-code) where
   number : c .admit-code .result ≡ refusal (call (F .before)) (S (F .before))
   unfolding admittedAt
   number =
-      let a = F .before .before .before in
-      c .admit-code .ensures (S (F .before)) refl (c .before .load-of .ensures (S (F .before)) refl refl)
-      ∙ admit-late (S (F .before)) (N (F .before)) (a .args .group) (a .args .reservation) (close-by F)
+      let a = F .before .before in
+      let test = a .tested .ensures in
+      c .admit-code .ensures (S (F .before)) refl (c .before .load-of .ensures (S (F .before)) refl (test .sums (test .test ∙ (close-by F) .sound)))
+      ∙ admit-late (S (F .before)) (N (F .before)) (a .before .args .group) (a .before .args .reservation) (close-by F)
 
 -- an accepted call
 module _ (c : tie.Then2) where
@@ -67,8 +68,8 @@ module _ (c : tie.Then2) where
   room : S B .count < 64
   room = newcomer (S B) holds (N B) (passed .small) (passed .fresh)
 
-sound-requires : tie.Need-sound-requires
-sound-requires c κs = search needs
+tested-requires : tie.Need-tested-requires
+tested-requires c κs = search needs
 
 number-code-requires : tie.Need-number-code-requires
 number-code-requires c κs = search needs
@@ -85,11 +86,11 @@ load-of-requires c κs = search needs
 admit-code-requires : tie.Need-admit-code-requires
 admit-code-requires c κs = search needs
 
-cast-quantum : tie.Need-cast-quantum
-cast-quantum c = omega (arith, (passed c) .at-most)
+cast-t25 : tie.Need-cast-t25
+cast-t25 c = omega (arith, (passed c) .at-most)
 
-mul-quantum : tie.Need-mul-quantum
-mul-quantum c = omega (arith, mul-le-mul ((passed c) .at-most) ((settings-facts (S (B c) .settings) ((holds c) .settings)) .1))
+mul-t27 : tie.Need-mul-t27
+mul-t27 c = omega (arith, mul-le-mul ((passed c) .at-most) ((settings-facts (S (B c) .settings) ((holds c) .settings)) .1))
 
 cast-t28 : tie.Need-cast-t28
 cast-t28 c = omega (arith, (passed c) .at-most)
@@ -135,14 +136,14 @@ pub admit-spec : {M : Type 1} → statement M
 admit-spec =
     tie.close
     (tie.spec
-    sound-requires
+    tested-requires
     number-code-requires
     mul-old
     element-copy-out-old
     load-of-requires
     admit-code-requires
-    cast-quantum
-    mul-quantum
+    cast-t25
+    mul-t27
     cast-t28
     cast-self
     mul-t31

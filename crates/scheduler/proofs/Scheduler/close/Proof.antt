@@ -23,7 +23,9 @@ module _ (c : tie.After-close-code) where
   call = closeGroup (c .before .before .before .before .before .args .number)
 
   number : c .close-code .result ≡ refusal call S
-  number = c .close-code .ensures S (c .before .before .before .before .sound .ensures) refl (λ _. c .before .load-of .ensures S refl refl)
+  number =
+      let test = c .before .before .before .before .tested .ensures in
+      c .close-code .ensures S (test .test) refl (λ w. c .before .load-of .ensures S refl (test .sums w))
 
 accepted : (c : tie.Then1) → refusal (call (c .before)) (S (c .before)) ≡ 0
 accepted c = sym (number (c .before)) ∙ c .if1 .taken
@@ -33,8 +35,8 @@ small c =
     let n = c .before .before .before .before .before .before .args .number in
     open-small (S (c .before)) n ((close-ok (S (c .before)) n ((passes (call (c .before)) (S (c .before)) (accepted c)) .1)) .opened)
 
-sound-requires : tie.Need-sound-requires
-sound-requires c κs = search needs
+tested-requires : tie.Need-tested-requires
+tested-requires c κs = search needs
 
 load-of-requires : tie.Need-load-of-requires
 load-of-requires c κs = search needs
@@ -60,7 +62,7 @@ pub close-spec : {M : Type 1} → statement M
 close-spec =
     tie.close
     (tie.spec
-    sound-requires
+    tested-requires
     load-of-requires
     close-code-requires
     mul-t14

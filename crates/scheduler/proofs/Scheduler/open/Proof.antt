@@ -24,7 +24,9 @@ module _ (c : tie.After-open-code) where
       openGroup (a .args .number) (a .args .parent) (a .args .ceiling)
 
   number : c .open-code .result ≡ refusal call S
-  number = c .open-code .ensures S (c .before .before .before .before .sound .ensures) refl (λ _. c .before .load-of .ensures S refl refl)
+  number =
+      let test = c .before .before .before .before .tested .ensures in
+      c .open-code .ensures S (test .test) refl (λ w. c .before .load-of .ensures S refl (test .sums w))
 
 accepted : (c : tie.Then1) → refusal (call (c .before)) (S (c .before)) ≡ 0
 accepted c = sym (number (c .before)) ∙ c .if1 .taken
@@ -36,8 +38,8 @@ passed c =
     let a = c .before .before .before .before .before .before in
     open-ok (S (c .before)) (a .args .number) (a .args .parent) (a .args .ceiling) ((passes (call (c .before)) (S (c .before)) (accepted c)) .1)
 
-sound-requires : tie.Need-sound-requires
-sound-requires c κs = search needs
+tested-requires : tie.Need-tested-requires
+tested-requires c κs = search needs
 
 load-of-requires : tie.Need-load-of-requires
 load-of-requires c κs = search needs
@@ -69,7 +71,7 @@ pub open-spec : {M : Type 1} → statement M
 open-spec =
     tie.close
     (tie.spec
-    sound-requires
+    tested-requires
     load-of-requires
     open-code-requires
     cast-t15

@@ -1,20 +1,19 @@
--- `ceilings_in` meets its contract: the pass keeps `Summed` with the terms of `ceilingsIn`.
+-- `ceilings_in` meets its contract: the pass keeps `Summed`.
 use Prim.Native.Nat.{_-_}
-use mathlib.Core.Path.{_∙_}
 use native.Mathlib.Omega.{arith}
 use borrow.Author.Needs.{needs}
-use Rattle.scheduler.proofs.Reserve.{Summed, summed-root, summed-more, summed-end, groupTerm, takes-term, ceilings-sum}
+use Rattle.scheduler.proofs.Reserve.{Summed, summed-none, summed-more, summed-end}
 use Rattle.scheduler.proofs.groups.ceilings_in.Statement.{statement}
 use Rattle.scheduler.proofs.groups.ceilings_in.Tie as tie
 
 abbrev Inv-loop : tie.InvT-loop
-Inv-loop group groups total₀ i₀ total i = Summed 1 16 (groupTerm groups group) i total
+Inv-loop group groups total₀ i₀ total i = Summed groups group i total
 
 abbrev μ-loop : tie.MeasureT-loop
 μ-loop group groups total₀ i₀ total i = 16 - i
 
 loop-holds : tie.Need-loop-holds Inv-loop μ-loop
-loop-holds c = summed-root (c .args .t1) (c .args .group)
+loop-holds c = summed-none (c .args .t1) (c .args .group)
 
 mul-x : tie.Need-mul-x Inv-loop μ-loop
 mul-x c = omega arith
@@ -41,15 +40,13 @@ loop-again : tie.Need-loop-again Inv-loop μ-loop
 loop-again c =
     let a = c .before .before .before .before in
     let l = c .before .before .before .loop in
-    summed-more 1 16 (groupTerm (a .args .t1) (a .args .group)) (l .i) (l .total) (l .inv) (c .before .before .loop-test .taken) (c .takes .result) (omega arith)
-    (c .takes .ensures ∙ takes-term (a .args .t1) (a .args .group) (l .i) (l .inv .least) (c .before .before .loop-test .taken))
+    summed-more (a .args .t1) (a .args .group) (l .i) (l .total) (l .inv) (c .before .before .loop-test .taken) (c .takes .result) (omega arith) (c .takes .ensures)
 
 returns : tie.Need-returns Inv-loop μ-loop
 returns c =
     let a = c .before .before in
     let l = c .before .loop in
-    let e = summed-end 1 16 (groupTerm (a .args .t1) (a .args .group)) (l .i) (l .total) (l .inv) (c .loop-test .left) in
-    (e .0, λ s q. e .1 ∙ ceilings-sum (a .args .t1) s q (a .args .group))
+    summed-end (a .args .t1) (a .args .group) (l .i) (l .total) (l .inv) (c .loop-test .left)
 
 pub ceilings-in-spec : {M : Type 1} → statement M
 ceilings-in-spec =

@@ -3,9 +3,11 @@ use mathlib.Core.Path.{_≡_, sym, _∙_}
 use mathlib.Core.Bool.{true}
 use borrow.Author.Tests.{not-true, not-false}
 use borrow.Author.Needs.{needs}
+use Rattle.order.proofs.Bools.{holds}
 use Rattle.scheduler.specs.declared.Scheduler.{Scheduler}
 use Rattle.scheduler.specs.State.{openAt}
 use Rattle.scheduler.specs.Sound.{sound}
+use Rattle.scheduler.proofs.Facts.{open-small}
 use Rattle.scheduler.proofs.ReserveCodes.{close-unsound, close-root, close-closed, close-used, close-free}
 use Rattle.scheduler.proofs.groups.close_code.Statement.{statement}
 use Rattle.scheduler.proofs.groups.close_code.Tie as tie
@@ -36,15 +38,17 @@ returns-4 : tie.Need-returns-4
 returns-4 c = λ s w g l.
     let e = c .before in
     let a = e .before .before .before .before in
-    let q = l (not-false (a .args .ok) (e .before .before .before .if1 .left)) in
-    close-used s (a .args .number) (ok (e .before .before .before) s w) (e .before .before .if2 .left) (opened e s g) (λ z. c .if4 .taken (q ∙ z))
+    let o = opened e s g in
+    let q = l (not-false (a .args .ok) (e .before .before .before .if1 .left)) (open-small s (a .args .number) (holds (openAt s (a .args .number)) o)) in
+    close-used s (a .args .number) (ok (e .before .before .before) s w) (e .before .before .if2 .left) o (λ z. c .if4 .taken (q ∙ z))
 
 returns-5 : tie.Need-returns-5
 returns-5 c = λ s w g l.
     let e = c .before in
     let a = e .before .before .before .before in
-    let q = l (not-false (a .args .ok) (e .before .before .before .if1 .left)) in
-    close-free s (a .args .number) (ok (e .before .before .before) s w) (e .before .before .if2 .left) (opened e s g) (sym q ∙ c .if4 .left)
+    let o = opened e s g in
+    let q = l (not-false (a .args .ok) (e .before .before .before .if1 .left)) (open-small s (a .args .number) (holds (openAt s (a .args .number)) o)) in
+    close-free s (a .args .number) (ok (e .before .before .before) s w) (e .before .before .if2 .left) o (sym q ∙ c .if4 .left)
 
 pub close-code-spec : {M : Type 1} → statement M
 close-code-spec = tie.close (tie.spec returns returns-2 is-open-requires returns-3 returns-4 returns-5)

@@ -4,9 +4,6 @@ use Rattle.scheduler.proofs.Reserve.{open-far, open-near}
 use Rattle.scheduler.proofs.groups.is_open.Statement.{statement}
 use Rattle.scheduler.proofs.groups.is_open.Tie as tie
 
-cast-if1 : tie.Need-cast-if1
-cast-if1 c = search needs
-
 returns : tie.Need-returns
 returns c = λ s e. open-far s (c .before .args .group) (c .if1 .taken)
 
@@ -20,4 +17,4 @@ returns-2 : tie.Need-returns-2
 returns-2 c = λ s e. open-near (c .before .before .before .args .t1) s e (c .before .before .before .args .group) (c .before .before .if1 .left)
 
 pub is-open-spec : {M : Type 1} → statement M
-is-open-spec = tie.close (tie.spec cast-if1 returns mul-x array-copy-out-x returns-2)
+is-open-spec = tie.close (tie.spec returns mul-x array-copy-out-x returns-2)

@@ -31,9 +31,6 @@ returns-2 c = λ s w g l.
     let a = c .before .before .before in
     open-orphan s (a .args .number) (a .args .parent) (a .args .ceiling) (ok (c .before .before) s w) (sym (c .before .is-open .ensures s g) ∙ not-true (c .before .is-open .result) (c .if2 .taken))
 
-cast-if3 : tie.Need-cast-if3
-cast-if3 c = search needs
-
 returns-3 : tie.Need-returns-3
 returns-3 c = λ s w g l.
     let a = c .before .before .before .before in
@@ -79,7 +76,6 @@ open-code-spec =
     returns
     is-open-requires
     returns-2
-    cast-if3
     returns-3
     is-open-requires-2
     returns-4
