@@ -8,16 +8,16 @@ use native.Mathlib.Nat.{mul-le-mul}
 use borrow.Author.Needs.{needs}
 use lib.Dec.{T}
 use Rattle.scheduler.specs.declared.Scheduler.{Scheduler}
-use Rattle.scheduler.specs.State.{withThread, withList, admittedAt}
+use Rattle.scheduler.specs.State.{withThread, withList, admittedAt, openAt}
 use Rattle.scheduler.specs.Sound.{sound}
-use Rattle.scheduler.specs.Refusals.{Call, admit, refusal}
+use Rattle.scheduler.specs.Refusals.{Call, admit, free, refusal}
 use Rattle.scheduler.specs.Effects.{newThread, join, effect}
 use Rattle.scheduler.specs.Rule.{isDispatch, accept, refuse}
 use Rattle.scheduler.specs.Answers.{lineOf, replyOf}
 use Rattle.scheduler.proofs.Facts.{Facts, facts, open-small, settings-facts}
 use Rattle.scheduler.proofs.Passed.{AdmitOk, passes, admit-ok}
 use Rattle.scheduler.proofs.Reserve.{newcomer}
-use Rattle.scheduler.proofs.ReserveCodes.{numberChecks, Near, near, admit-early, admit-late, step-accept, step-refuse}
+use Rattle.scheduler.proofs.ReserveCodes.{numberChecks, admitChecks, Near, near, admit-early, admit-late, step-accept, step-refuse}
 use Rattle.scheduler.proofs.Scheduler.admit.Statement.{statement}
 use Rattle.scheduler.proofs.Scheduler.admit.Tie as tie
 
@@ -29,8 +29,14 @@ module _ (c : tie.After-number-code) where
   abbrev N : ℕ
   N = c .before .before .args .number
 
+  abbrev G : ℕ
+  G = c .before .before .args .group
+
+  abbrev R : ℕ
+  R = c .before .before .args .reservation
+
   abbrev call : Call
-  call = admit N (c .before .before .args .group) (c .before .before .args .reservation)
+  call = admit N G R
 
   first : c .number-code .result ≡ numberChecks (sound S) N
   first = c .number-code .ensures ∙ ap (λ (b : Bool). numberChecks b N) (c .before .tested .ensures .test)
@@ -43,13 +49,14 @@ module _ (c : tie.After-admit-code) where
   abbrev F : tie.Then1
   F = c .before .before .before .before .before
 
-  number : c .admit-code .result ≡ refusal (call (F .before)) (S (F .before))
+  second : c .admit-code .result ≡ admitChecks (admittedAt (S (F .before)) (N (F .before))) (openAt (S (F .before)) (G (F .before))) (free (S (F .before)) (G (F .before))) (R (F .before))
   unfolding admittedAt
-  number =
-      let a = F .before .before in
-      let test = a .tested .ensures in
+  second =
+      let test = F .before .before .tested .ensures in
       c .admit-code .ensures (S (F .before)) refl (c .before .load-of .ensures (S (F .before)) refl (test .sums (test .test ∙ (close-by F) .sound)))
-      ∙ admit-late (S (F .before)) (N (F .before)) (a .before .args .group) (a .before .args .reservation) (close-by F)
+
+  number : c .admit-code .result ≡ refusal (call (F .before)) (S (F .before))
+  number = second ∙ admit-late (S (F .before)) (N (F .before)) (G (F .before)) (R (F .before)) (close-by F)
 
 -- an accepted call
 module _ (c : tie.Then2) where
@@ -62,8 +69,8 @@ module _ (c : tie.Then2) where
   holds : Facts (S B)
   holds = facts (S B) ((passes (call B) (S B) accepted) .0)
 
-  passed : AdmitOk (S B) (N B) (B .before .before .args .group) (B .before .before .args .reservation)
-  passed = admit-ok (S B) (N B) (B .before .before .args .group) (B .before .before .args .reservation) ((passes (call B) (S B) accepted) .1)
+  passed : AdmitOk (S B) (N B) (G B) (R B)
+  passed = admit-ok (S B) (N B) (G B) (R B) ((passes (call B) (S B) accepted) .1)
 
   room : S B .count < 64
   room = newcomer (S B) holds (N B) (passed .small) (passed .fresh)
@@ -96,7 +103,7 @@ cast-t28 : tie.Need-cast-t28
 cast-t28 c = omega (arith, (passed c) .at-most)
 
 cast-self : tie.Need-cast-self
-cast-self c = omega (arith, open-small (S (B c)) (B c .before .before .args .group) ((passed c) .opened))
+cast-self c = omega (arith, open-small (S (B c)) (G (B c)) ((passed c) .opened))
 
 mul-t31 : tie.Need-mul-t31
 mul-t31 c = omega (arith, (passed c) .small)
@@ -129,7 +136,7 @@ unfolding replyOf lineOf refuse
 returns-3 c =
     let b = c .before in
     step-refuse (call b) (S b) (b .number-code .result)
-    (first b ∙ admit-early (S b) (N b) (b .before .before .args .group) (b .before .before .args .reservation) (λ z. c .if1 .left (first b ∙ z)))
+    (first b ∙ admit-early (S b) (N b) (G b) (R b) (λ z. c .if1 .left (first b ∙ z)))
     (c .if1 .left)
 
 pub admit-spec : {M : Type 1} → statement M

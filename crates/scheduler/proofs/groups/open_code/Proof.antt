@@ -2,6 +2,7 @@
 use mathlib.Core.Path.{_≡_, sym, ap, _∙_}
 use mathlib.Core.Bool.{true, false}
 use Prim.Native.Nat.{ℕ}
+use native.Mathlib.Omega.{arith}
 use borrow.Author.Tests.{not-true, not-false}
 use borrow.Author.Needs.{needs}
 use Rattle.scheduler.specs.declared.Scheduler.{Scheduler}
@@ -51,7 +52,7 @@ returns-5 c = λ s w g l.
     let e = c .before .before .before .before in
     let a = e .before .before .before in
     open-low s (a .args .number) (a .args .parent) (a .args .ceiling) (ok (e .before .before) s w) (parent e s g) (c .before .before .before .if3 .left)
-    (sym (c .before .before .is-open2 .ensures s g) ∙ c .before .if4 .left) (c .if5 .taken)
+    (sym (c .before .before .is-open2 .ensures s g) ∙ c .before .if4 .left) (omega arith)
 
 free-in-requires : tie.Need-free-in-requires
 free-in-requires c κs = search needs
@@ -67,7 +68,7 @@ returns-6 c = λ s w g l.
     c .amount-code .ensures
     ∙ ap (λ (n : ℕ). amountChecks n (a .args .ceiling)) (c .before .free-in .ensures s g (l (not-false (a .args .ok) (e .before .before .if1 .left))))
     ∙ open-amount s (a .args .number) (a .args .parent) (a .args .ceiling) (ok (e .before .before) s w) (parent e s g) (h .before .before .before .if3 .left)
-    (sym (h .before .before .is-open2 .ensures s g) ∙ h .before .if4 .left) (h .if5 .left)
+    (sym (h .before .before .is-open2 .ensures s g) ∙ h .before .if4 .left) (omega arith)
 
 pub open-code-spec : {M : Type 1} → statement M
 open-code-spec =
