@@ -17,7 +17,7 @@ use Rattle.scheduler.specs.declared.Scheduler.{Scheduler}
 use Rattle.scheduler.specs.State.{noGroup, isOpen, threadAt, groupAt, admittedAt, reservedAt, reservationAt, openAt, listed}
 use Rattle.scheduler.specs.Sound.{threadIn, childOf, reservedIn, ceilingsIn, load}
 use Rattle.scheduler.specs.Refusals.{free, inUse}
-use Rattle.scheduler.specs.Subtree.{Table}
+use Rattle.scheduler.specs.TestParts.{Sums}
 use Rattle.scheduler.proofs.Facts.{Facts, member-admitted, room}
 use Rattle.scheduler.proofs.Tree.{child-of}
 
@@ -88,7 +88,7 @@ pub open-near : (xs : List Group) (s : Scheduler) → s .groups ≡ xs → (g : 
 unfolding openAt
 open-near xs s e g h = rw (lt-ltb g 16 h) (ap (λ (z : List Group). isOpen (getD z g noGroup)) (sym e))
 
-pub load-is : (used : List ℕ) (s : Scheduler) → Table used s → (g ceilings : ℕ) → g < 16 → ceilings ≡ ceilingsIn s g → getD used g 0 + ceilings ≡ load s g
+pub load-is : (used : List ℕ) (s : Scheduler) → Sums s used → (g ceilings : ℕ) → g < 16 → ceilings ≡ ceilingsIn s g → getD used g 0 + ceilings ≡ load s g
 unfolding load
 load-is used s t g ceilings l e = rw (t g l, e)
 

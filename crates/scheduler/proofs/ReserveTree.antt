@@ -18,7 +18,8 @@ use Rattle.scheduler.specs.State.{noGroup, isOpen, groupAt, openAt}
 use Rattle.scheduler.specs.Sound.{reservedIn, childOf, sound}
 use Rattle.scheduler.specs.Refusals.{_⇒_, firstOf}
 use Rattle.scheduler.specs.Tree.{subtreeTotal}
-use Rattle.scheduler.specs.Subtree.{Subtree, subtreeRefusal, subtreeReply, Table, Sums}
+use Rattle.scheduler.specs.TestParts.{Sums}
+use Rattle.scheduler.specs.Subtree.{Subtree, subtreeRefusal, subtreeReply, Rooted}
 use Rattle.scheduler.proofs.Facts.{Facts, facts, open-small}
 use Rattle.scheduler.proofs.Tree.{ifChild, subtree-step, subtree-most}
 use Rattle.scheduler.proofs.Reserve.{underOf, child-is, open-near}
@@ -39,7 +40,7 @@ below s g c = ifChild s g c (subtreeTotal s c)
 pub record Below (xs : List Group) (used : List ℕ) (g c total : ℕ) : Type 0 where
   pub least : g < c
   pub most : c ≤ 16
-  pub sums : (s : Scheduler) → s .groups ≡ xs → Table used s → total ≡ reservedIn s g + sumBelow (below s g) c
+  pub sums : (s : Scheduler) → s .groups ≡ xs → Sums s used → total ≡ reservedIn s g + sumBelow (below s g) c
 
 pub below-none : (xs : List Group) (used : List ℕ) (g : ℕ) → g < 16 → Below xs used g (g + 1) (getD used g 0)
 below-none xs used g l = record {
@@ -54,7 +55,7 @@ under-child xs s e g c l m = rw (lt-ltb g c l) (sym (child-is xs s e g c (omega 
 
 module _ (xs : List Group) (used : List ℕ) (g c total : ℕ) (k : Below xs used g c total) where
   module _ (l : c < 16) where
-    pub below-add : (v : ℕ) → underOf (getD xs c noGroup) g ≡ true → ((s : Scheduler) → s .groups ≡ xs → Table used s → v ≡ subtreeTotal s c) → Below xs used g (c + 1) (total + v)
+    pub below-add : (v : ℕ) → underOf (getD xs c noGroup) g ≡ true → ((s : Scheduler) → s .groups ≡ xs → Sums s used → v ≡ subtreeTotal s c) → Below xs used g (c + 1) (total + v)
     below-add v u q = record {
       least = omega (arith, k .least);
       most = omega arith;
@@ -73,7 +74,7 @@ module _ (xs : List Group) (used : List ℕ) (g c total : ℕ) (k : Below xs use
     }
 
     -- the child's own subtree
-    pub below-child : Sums xs used g → underOf (getD xs c noGroup) g ≡ true → Sums xs used c
+    pub below-child : Rooted xs used g → underOf (getD xs c noGroup) g ≡ true → Rooted xs used c
     below-child z u = record {
       state = z .state;
       fine = z .fine;
@@ -82,7 +83,7 @@ module _ (xs : List Group) (used : List ℕ) (g c total : ℕ) (k : Below xs use
       opened = holds (openAt (z .state) c) (sym (open-near xs (z .state) (z .same) c l) ∙ is (isOpen (getD xs c noGroup)) (and-l (isOpen (getD xs c noGroup)) _ (holds (underOf (getD xs c noGroup) g) u)));
     }
 
-    pub below-most : Sums xs used g → (v : ℕ) → underOf (getD xs c noGroup) g ≡ true → ((s : Scheduler) → s .groups ≡ xs → Table used s → v ≡ subtreeTotal s c) → total + v ≤ 1000
+    pub below-most : Rooted xs used g → (v : ℕ) → underOf (getD xs c noGroup) g ≡ true → ((s : Scheduler) → s .groups ≡ xs → Sums s used → v ≡ subtreeTotal s c) → total + v ≤ 1000
     below-most z v u q =
         let s = z .state in
         let f = facts s (z .fine) in
@@ -96,7 +97,7 @@ module _ (xs : List Group) (used : List ℕ) (g c total : ℕ) (k : Below xs use
           (f .group g (open-small s g (z .opened)) (z .opened)) .at-most,
         )
 
-  pub below-end : 16 ≤ c → (s : Scheduler) → s .groups ≡ xs → Table used s → total ≡ subtreeTotal s g
+  pub below-end : 16 ≤ c → (s : Scheduler) → s .groups ≡ xs → Sums s used → total ≡ subtreeTotal s g
   below-end h s e t =
       let q : c ≡ 16 = omega (arith, k .most) in
       k .sums s e t ∙ ap (λ (j : ℕ). reservedIn s g + sumBelow (below s g) j) q ∙ sym (subtree-step s g)

@@ -6,7 +6,10 @@ use Rattle.scheduler.specs.declared.Answer.the-variants.{Accepted, Refus
 use Rattle.scheduler.specs.declared.Answered.{Answered}
 use Rattle.scheduler.specs.declared.priority.Mapping.{Mapping}
 use Rattle.scheduler.specs.declared.priority.Mapping.the-variants.{Reservation}
+use Rattle.scheduler.specs.declared.groups.Total.{Total}
+use Rattle.scheduler.specs.declared.groups.Total.the-variants.{Thousandths}
 use Rattle.scheduler.specs.Rule.{Reply, Mapped}
+use Rattle.scheduler.specs.Subtree.{Subtree}
 
 -- answer, thread, slice, threads before it
 unfoldable pub lineOf : Answer → Scheduler → Reply
@@ -22,3 +25,8 @@ replyOf r = lineOf (r .answer) (r .state)
 unfoldable pub mappedOf : Mapping → Mapped
 mappedOf (Reservation f) = record { answer = 0; reservation = f }
 mappedOf (Mapping.Refused k) = record { answer = k; reservation = 0 }
+
+-- 0 and the sum, or the refusal
+unfoldable pub subtreeOf : Total → Subtree
+subtreeOf (Thousandths n) = record { answer = 0; thousandths = n }
+subtreeOf (Total.Refused k) = record { answer = k; thousandths = 0 }

@@ -9,9 +9,10 @@ ghost use Rattle.scheduler.specs.State.{isOpen, openAt};
 ghost use Rattle.scheduler.specs.Sound.{within, ceilingsIn, load, sound};
 ghost use Rattle.scheduler.specs.Refusals.{_⇒_, firstOf, free, refusal, openGroup, closeGroup, admit};
 ghost use Rattle.scheduler.specs.Rule.{step};
-ghost use Rattle.scheduler.specs.Answers.{replyOf};
+ghost use Rattle.scheduler.specs.Answers.{replyOf, subtreeOf};
 ghost use Rattle.scheduler.specs.Tree.{subtreeTotal};
-ghost use Rattle.scheduler.specs.Subtree.{subtreeReply, subtreeOf, Table, Sums};
+ghost use Rattle.scheduler.specs.Subtree.{subtreeReply, Rooted};
+ghost use Rattle.scheduler.specs.TestParts.{Sums};
 use crate::Answer;
 use crate::Answered;
 use crate::Group;
@@ -70,7 +71,7 @@ fn ceilings_in(groups: [Group; 16], group: u64) -> u64
 
 // The reservations and ceilings in a group, from the table of reservations.
 fn load_of(groups: [Group; 16], reserved: [u32; 16], group: u64) -> u64
-    ensures { λ r. ⌜ ((s : Scheduler) → s .groups ≡ groups → Table reserved s → group < 16 → r ≡ load s group) ⌝ }
+    ensures { λ r. ⌜ ((s : Scheduler) → s .groups ≡ groups → Sums s reserved → group < 16 → r ≡ load s group) ⌝ }
 {
     if GROUPS <= group {
         return 0;
@@ -190,8 +191,8 @@ fn admit_code(status: u8, groups: [Group; 16], used: u64, group: u64, reservatio
 
 // The reservations in a group and in every group below it. Each call goes to a child group, which has a higher number.
 fn subtree(groups: [Group; 16], reserved: [u32; 16], group: u64) -> u32
-    requires { ⌜ Sums groups reserved group ⌝ }
-    ensures { λ r. ⌜ ((s : Scheduler) → s .groups ≡ groups → Table reserved s → r ≡ subtreeTotal s group) ⌝ }
+    requires { ⌜ Rooted groups reserved group ⌝ }
+    ensures { λ r. ⌜ ((s : Scheduler) → s .groups ≡ groups → Sums s reserved → r ≡ subtreeTotal s group) ⌝ }
 {
     let at = group as usize;
     let mut total = reserved[at];

@@ -1,7 +1,7 @@
 // The soundness test.
 ghost use mathlib.Core.Path.{_≡_};
 ghost use Rattle.scheduler.specs.Sound.{sound};
-ghost use Rattle.scheduler.specs.Subtree.{Tested};
+ghost use Rattle.scheduler.specs.TestParts.{Tested};
 use crate::Scheduler;
 
 pub(crate) struct Pass {
