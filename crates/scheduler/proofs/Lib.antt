@@ -16,3 +16,6 @@ pub mod Replies
 pub mod Dispatch
 pub mod Report
 pub mod Started
+pub mod Reserve
+pub mod ReserveCodes
+pub mod ReserveTree

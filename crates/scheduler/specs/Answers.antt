@@ -4,7 +4,12 @@ use Rattle.scheduler.specs.declared.Scheduler.{Scheduler}
 use Rattle.scheduler.specs.declared.Answer.{Answer}
 use Rattle.scheduler.specs.declared.Answer.the-variants.{Accepted, Refused, Idle, Run}
 use Rattle.scheduler.specs.declared.Answered.{Answered}
-use Rattle.scheduler.specs.Rule.{Reply}
+use Rattle.scheduler.specs.declared.priority.Mapping.{Mapping}
+use Rattle.scheduler.specs.declared.priority.Mapping.the-variants.{Reservation}
+use Rattle.scheduler.specs.declared.groups.Total.{Total}
+use Rattle.scheduler.specs.declared.groups.Total.the-variants.{Thousandths}
+use Rattle.scheduler.specs.Rule.{Reply, Mapped}
+use Rattle.scheduler.specs.Subtree.{Subtree}
 
 -- answer, thread, slice, threads before it
 unfoldable pub lineOf : Answer → Scheduler → Reply
@@ -15,3 +20,13 @@ lineOf (Run t a n) s = record { answer = 0; thread = t; slice = a; before = n; s
 
 unfoldable pub replyOf : Answered → Reply
 replyOf r = lineOf (r .answer) (r .state)
+
+-- 0 and the reservation, or the refusal
+unfoldable pub mappedOf : Mapping → Mapped
+mappedOf (Reservation f) = record { answer = 0; reservation = f }
+mappedOf (Mapping.Refused k) = record { answer = k; reservation = 0 }
+
+-- 0 and the sum, or the refusal
+unfoldable pub subtreeOf : Total → Subtree
+subtreeOf (Thousandths n) = record { answer = 0; thousandths = n }
+subtreeOf (Total.Refused k) = record { answer = k; thousandths = 0 }

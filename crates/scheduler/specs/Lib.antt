@@ -7,3 +7,5 @@ pub mod Answers
 pub mod Accounts
 pub mod Stretch
 pub mod Tree
+pub mod TestParts
+pub mod Subtree

@@ -1,0 +1,319 @@
+// The calls on groups, admission, and the reservations down the group tree. What a group has free is its ceiling less the reservations
+// of its threads, which the soundness test adds up, and the ceilings of its child groups.
+ghost use mathlib.Core.Path.{_≡_};
+ghost use mathlib.Core.Bool.{true, not, cond, _&&_};
+ghost use mathlib.Core.List.{[], _∷_};
+ghost use Prim.Native.Nat.{_≤_, _<_};
+ghost use lib.Dec.{ltb, eqb};
+ghost use Rattle.scheduler.specs.State.{isOpen, openAt};
+ghost use Rattle.scheduler.specs.Sound.{within, ceilingsIn, load, sound};
+ghost use Rattle.scheduler.specs.Refusals.{_⇒_, firstOf, free, refusal, openGroup, closeGroup, admit};
+ghost use Rattle.scheduler.specs.Rule.{step};
+ghost use Rattle.scheduler.specs.Answers.{replyOf, subtreeOf};
+ghost use Rattle.scheduler.specs.Tree.{subtreeTotal};
+ghost use Rattle.scheduler.specs.Subtree.{subtreeReply, Rooted};
+ghost use Rattle.scheduler.specs.TestParts.{Sums};
+use crate::Answer;
+use crate::Answered;
+use crate::Group;
+use crate::Scheduler;
+use crate::Thread;
+
+const GROUPS: u64 = Scheduler::GROUPS as u64;
+
+// What a group and the groups below it have reserved. `subtreeOf` sets out the numbers for each case.
+pub enum Total {
+    Thousandths(u32),
+    Refused(u32),
+}
+
+impl Group {
+    // Whether the group is open and has this parent.
+    fn under(self, parent: u64) -> bool
+        ensures { λ r. ⌜ r ≡ (isOpen self && eqb (self .parent) parent) ⌝ }
+    {
+        (self.opened == 1) & (self.parent as u64 == parent)
+    }
+
+    // What a group other than group 0 takes of a parent.
+    fn takes(self, parent: u64) -> u16
+        ensures { λ r. ⌜ r ≡ cond (isOpen self && eqb (self .parent) parent) (self .ceiling) 0 ⌝ }
+    {
+        if self.under(parent) { self.ceiling } else { 0 }
+    }
+}
+
+// Whether a group is open.
+fn is_open(groups: [Group; 16], group: u64) -> bool
+    ensures { λ r. ⌜ ((s : Scheduler) → s .groups ≡ groups → r ≡ openAt s group) ⌝ }
+{
+    if GROUPS <= group {
+        return false;
+    }
+    let at = group as usize;
+    let x = groups[at];
+    x.opened == 1
+}
+
+// The ceilings of a group's child groups. Group 0 is no child.
+fn ceilings_in(groups: [Group; 16], group: u64) -> u64
+    ensures { λ r. ⌜ (r ≤ 1048560) × ((s : Scheduler) → s .groups ≡ groups → r ≡ ceilingsIn s group) ⌝ }
+{
+    let mut total: u64 = 0;
+    let mut i: usize = 1;
+    while i < 16 {
+        let x = groups[i];
+        total += x.takes(group) as u64;
+        i += 1;
+    }
+    total
+}
+
+// The reservations and ceilings in a group, from the table of reservations.
+fn load_of(groups: [Group; 16], reserved: [u32; 16], group: u64) -> u64
+    ensures { λ r. ⌜ ((s : Scheduler) → s .groups ≡ groups → Sums s reserved → group < 16 → r ≡ load s group) ⌝ }
+{
+    if GROUPS <= group {
+        return 0;
+    }
+    let at = group as usize;
+    let own = reserved[at] as u64;
+    own + ceilings_in(groups, group)
+}
+
+// What a group with a load has free.
+fn free_in(groups: [Group; 16], group: u64, used: u64) -> u64
+    ensures { λ r. ⌜ ((s : Scheduler) → s .groups ≡ groups → (group < 16 → used ≡ load s group) → r ≡ free s group) ⌝ }
+{
+    if GROUPS <= group {
+        return 0;
+    }
+    let at = group as usize;
+    let x = groups[at];
+    let ceiling = x.ceiling as u64;
+    if ceiling < used {
+        return 0;
+    }
+    ceiling - used
+}
+
+// The number that an amount is refused with, or 0.
+fn amount_code(amount: u64, room: u64) -> u32
+    ensures { λ r. ⌜ r ≡ firstOf ((not (within 1 1000 amount) ⇒ 4) ∷ (ltb room amount ⇒ 5) ∷ []) ⌝ }
+{
+    if amount < 1 {
+        return 4;
+    }
+    if (Scheduler::WHOLE as u64) < amount {
+        return 4;
+    }
+    if room < amount {
+        return 5;
+    }
+    0
+}
+
+// The number that opening a group is refused with, or 0.
+fn open_code(
+    ok: bool,
+    groups: [Group; 16],
+    used: u64,
+    number: u64,
+    parent: u64,
+    ceiling: u64,
+) -> u32
+    ensures { λ r. ⌜ ((s : Scheduler) → ok ≡ sound s → s .groups ≡ groups → (ok ≡ true → parent < 16 → used ≡ load s parent) → r
+        ≡ refusal (openGroup number parent ceiling) s) ⌝ }
+{
+    if !ok {
+        return 16;
+    }
+    if !is_open(groups, parent) {
+        return 2;
+    }
+    if GROUPS <= number {
+        return 3;
+    }
+    if is_open(groups, number) {
+        return 3;
+    }
+    if number <= parent {
+        return 3;
+    }
+    amount_code(ceiling, free_in(groups, parent, used))
+}
+
+// The number that closing a group is refused with, or 0. Each thread reserves and each child group takes at least 1.
+fn close_code(ok: bool, groups: [Group; 16], used: u64, number: u64) -> u32
+    ensures { λ r. ⌜ ((s : Scheduler) → ok ≡ sound s → s .groups ≡ groups → (ok ≡ true → number < 16 → used ≡ load s number) → r ≡ refusal (closeGroup number) s) ⌝ }
+{
+    if !ok {
+        return 16;
+    }
+    if number == 0 {
+        return 2;
+    }
+    if !is_open(groups, number) {
+        return 2;
+    }
+    if used != 0 {
+        return 6;
+    }
+    0
+}
+
+// The number that admission of a thread is refused with before its entry is read, or 0.
+fn number_code(ok: bool, number: u64) -> u32
+    ensures { λ r. ⌜ r ≡ firstOf ((not ok ⇒ 16) ∷ (ltb 63 number ⇒ 7) ∷ []) ⌝ }
+{
+    if !ok {
+        return 16;
+    }
+    if Scheduler::THREADS as u64 <= number {
+        return 7;
+    }
+    0
+}
+
+// The number that admission is refused with after that, or 0.
+fn admit_code(status: u8, groups: [Group; 16], used: u64, group: u64, reservation: u64) -> u32
+    ensures { λ r. ⌜ ((s : Scheduler) → s .groups ≡ groups → (group < 16 → used ≡ load s group) → r
+        ≡ firstOf ((ltb 0 status ⇒ 8) ∷ (not (openAt s group) ⇒ 2) ∷ (not (within 1 1000 reservation) ⇒ 4) ∷ (ltb (free s group) reservation ⇒ 5) ∷ [])) ⌝ }
+{
+    if 0 < status {
+        return 8;
+    }
+    if !is_open(groups, group) {
+        return 2;
+    }
+    amount_code(reservation, free_in(groups, group, used))
+}
+
+// The reservations in a group and in every group below it. Each call goes to a child group, which has a higher number.
+fn subtree(groups: [Group; 16], reserved: [u32; 16], group: u64) -> u32
+    requires { ⌜ Rooted groups reserved group ⌝ }
+    ensures { λ r. ⌜ ((s : Scheduler) → s .groups ≡ groups → Sums s reserved → r ≡ subtreeTotal s group) ⌝ }
+{
+    let at = group as usize;
+    let mut total = reserved[at];
+    let mut child = group + 1;
+    while child < GROUPS {
+        let i = child as usize;
+        let x = groups[i];
+        if x.under(group) {
+            total += subtree(groups, reserved, child);
+            child += 1;
+            continue;
+        }
+        child += 1;
+    }
+    total
+}
+
+impl Scheduler {
+    // Opens a group with a ceiling below a parent.
+    pub fn open(mut self, number: u64, parent: u64, ceiling: u64) -> Answered
+        ensures { λ r. ⌜ replyOf r ≡ step (openGroup number parent ceiling) self ⌝ }
+    {
+        let test = self.tested();
+        let reserved = test.used;
+        let groups = self.groups;
+        let used = load_of(groups, reserved, parent);
+        let code = open_code(test.ok, groups, used, number, parent, ceiling);
+        let mut answer = Answer::Refused(code);
+        if code == 0 {
+            let at = number as usize;
+            self.groups[at] = Group {
+                ceiling: ceiling as u16,
+                parent: parent as u8,
+                opened: 1,
+            };
+            answer = Answer::Accepted;
+        }
+        Answered {
+            answer: answer,
+            state: self,
+        }
+    }
+
+    // Closes a group that has no thread and no child.
+    pub fn close(mut self, number: u64) -> Answered
+        ensures { λ r. ⌜ replyOf r ≡ step (closeGroup number) self ⌝ }
+    {
+        let test = self.tested();
+        let reserved = test.used;
+        let groups = self.groups;
+        let used = load_of(groups, reserved, number);
+        let code = close_code(test.ok, groups, used, number);
+        let mut answer = Answer::Refused(code);
+        if code == 0 {
+            let at = number as usize;
+            self.groups[at] = Group {
+                ceiling: 0,
+                parent: 0,
+                opened: 0,
+            };
+            answer = Answer::Accepted;
+        }
+        Answered {
+            answer: answer,
+            state: self,
+        }
+    }
+
+    // Admits a thread to a group with a reservation: runnable, with a full allotment, at the rear of the list.
+    pub fn admit(mut self, number: u64, group: u64, reservation: u64) -> Answered
+        ensures { λ r. ⌜ replyOf r ≡ step (admit number group reservation) self ⌝ }
+    {
+        let test = self.tested();
+        let first = number_code(test.ok, number);
+        let mut answer = Answer::Refused(first);
+        if first == 0 {
+            let at = number as usize;
+            let old = self.threads[at];
+            let reserved = test.used;
+            let groups = self.groups;
+            let used = load_of(groups, reserved, group);
+            let code = admit_code(old.status, groups, used, group, reservation);
+            answer = Answer::Refused(code);
+            if code == 0 {
+                let meter = self.meter;
+                let count = self.count;
+                self.threads[at] = Thread {
+                    admission: meter,
+                    anchor: meter,
+                    ticks: 0,
+                    since: 0,
+                    allotment: reservation as u32 * self.settings.thousandth,
+                    reservation: reservation as u16,
+                    group: group as u8,
+                    status: 1,
+                };
+                let rear = count as usize;
+                self.order[rear] = number as u8;
+                self.count = count + 1;
+                answer = Answer::Accepted;
+            }
+        }
+        Answered {
+            answer: answer,
+            state: self,
+        }
+    }
+
+    // The reservations in a group and everywhere below it.
+    pub fn subtree_total(self, group: u64) -> Total
+        ensures { λ r. ⌜ subtreeOf r ≡ subtreeReply self group ⌝ }
+    {
+        let test = self.tested();
+        if !test.ok {
+            return Total::Refused(16);
+        }
+        let groups = self.groups;
+        if !is_open(groups, group) {
+            return Total::Refused(2);
+        }
+        let reserved = test.used;
+        Total::Thousandths(subtree(groups, reserved, group))
+    }
+}
