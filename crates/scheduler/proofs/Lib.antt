@@ -12,6 +12,11 @@ pub mod Preserved
 pub mod ListRule
 pub mod Growth
 pub mod Example
+pub mod TestLaws
+pub mod TestList
+pub mod TestThreads
+pub mod TestGroups
+pub mod TestWhole
 pub mod Replies
 pub mod Dispatch
 pub mod Report

@@ -2,9 +2,9 @@
 ghost use mathlib.Core.Path.{_≡_};
 ghost use Rattle.scheduler.specs.State.{defaultSettings};
 
-pub mod run;
 pub mod groups;
 pub mod priority;
+pub mod run;
 pub mod sound;
 
 // The settings: m, the ticks per thousandth of the virtual time quantum, and P, the preemption interval in ticks.

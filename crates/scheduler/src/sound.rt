@@ -1,12 +1,228 @@
-// The soundness test.
+// The soundness test. It runs at every call: one pass over the list, one over the threads, one over the groups.
+// The state is read in place; only the three tables are handed on, each to one function.
 ghost use mathlib.Core.Path.{_≡_};
-ghost use Rattle.scheduler.specs.Sound.{sound};
-ghost use Rattle.scheduler.specs.TestParts.{Tested};
+ghost use mathlib.Core.Bool.{false, _&&_, _||_};
+ghost use Prim.Native.Nat.{_*_, _-_, _≤_, _<_};
+ghost use lib.ListN.{take};
+ghost use lib.Dec.{ltb, leb, eqb};
+ghost use Rattle.scheduler.specs.declared.Scheduler.{Scheduler};
+ghost use Rattle.scheduler.specs.State.{listed};
+ghost use Rattle.scheduler.specs.Sound.{within, settingsOk, groupsOk, sound};
+ghost use Rattle.scheduler.specs.TestParts.{given, having, Marks, ListSeen, Sums, Small, ThreadsPass, Tested};
+use crate::Group;
 use crate::Scheduler;
+use crate::Settings;
+use crate::Thread;
 
+const THREADS: usize = Scheduler::THREADS as usize;
+
+const GROUPS: usize = Scheduler::GROUPS as usize;
+
+// A pass over the list: whether its entries are thread numbers, each once, and which numbers they are.
+struct Seen {
+    ok: bool,
+    seen: [bool; 64],
+}
+
+// A pass over the threads: whether each is in order, and the reservations in each group.
 pub(crate) struct Pass {
     pub(crate) ok: bool,
     pub(crate) used: [u32; 16],
+}
+
+impl Settings {
+    pub fn ok(self) -> bool
+        ensures { λ r. ⌜ r ≡ settingsOk self ⌝ }
+    {
+        let m = self.thousandth;
+        let p = self.interval;
+        ((1 <= m) & (m <= Self::THOUSANDTH_MOST)) & ((1 <= p) & (p <= Self::INTERVAL_MOST))
+    }
+}
+
+// The meter's limits, the lower one while a thread runs.
+fn meter_ok(meter: u64, running: u32) -> bool
+    ensures { λ r. ⌜ r ≡ (leb meter 10000001000000 && leb running 64 && (eqb running 64 || ltb meter 10000000000000)) ⌝ }
+{
+    (meter <= Scheduler::METER_MOST)
+        & (running <= Scheduler::THREADS)
+        & ((running == Scheduler::THREADS) | (meter < Scheduler::METER_LIMIT))
+}
+
+// A reservation and its allotment.
+fn quota_ok(reservation: u32, allotment: u32, m: u32) -> bool
+    requires { ⌜ (reservation < 65536) × (m ≤ 1000) ⌝ }
+    ensures { λ r. ⌜ r ≡ (within 1 1000 reservation && within 1 (reservation * m) allotment) ⌝ }
+{
+    if reservation < 1 {
+        return false;
+    }
+    if Scheduler::WHOLE < reservation {
+        return false;
+    }
+    if allotment < 1 {
+        return false;
+    }
+    allotment <= reservation * m
+}
+
+// A thread's account against the meter.
+fn account_ok(t: Thread, meter: u64) -> bool
+    ensures { λ r. ⌜ r ≡ (leb (t .admission) (t .anchor) && leb (t .anchor) meter && leb (t .ticks) (meter - t .admission) && leb (t .since) (meter - t .anchor)) ⌝ }
+{
+    let admission = t.admission;
+    let anchor = t.anchor;
+    if anchor < admission {
+        return false;
+    }
+    if meter < anchor {
+        return false;
+    }
+    (t.ticks <= meter - admission) & (t.since <= meter - anchor)
+}
+
+fn list_seen(order: [u8; 64], count: u32) -> Seen
+    requires { ⌜ count ≤ 64 ⌝ }
+    ensures { λ r. ⌜ ListSeen (take count order) (r .ok) (r .seen) ⌝ }
+{
+    let n = count as usize;
+    let mut seen = [false; 64];
+    let mut i: usize = 0;
+    while i < n {
+        let t = order[i] as usize;
+        if THREADS <= t {
+            return Seen {
+                ok: false,
+                seen: seen,
+            };
+        }
+        if seen[t] {
+            return Seen {
+                ok: false,
+                seen: seen,
+            };
+        }
+        seen[t] = true;
+        i += 1;
+    }
+    Seen {
+        ok: true,
+        seen: seen,
+    }
+}
+
+// A thread is not in order.
+fn failed() -> Pass
+    ensures { λ r. ⌜ r .ok ≡ false ⌝ }
+{
+    Pass {
+        ok: false,
+        used: [0u32; 16],
+    }
+}
+
+// A free number does not stand in the list; an admitted thread does.
+fn threads_pass(
+    threads: [Thread; 64],
+    groups: [Group; 16],
+    seen: [bool; 64],
+    m: u32,
+    meter: u64,
+    running: u32,
+) -> Pass
+    requires { ⌜ (m ≤ 1000) × (running ≤ 64) ⌝ }
+    ensures { λ r. ⌜ ((s : Scheduler) → Marks seen (listed s) → ThreadsPass (given s threads groups m meter running) (r .ok) (r .used)) ⌝ }
+{
+    let mut used = [0u32; 16];
+    let mut i: usize = 0;
+    while i < THREADS {
+        let t = threads[i];
+        let status = t.status;
+        if status == 0 {
+            if seen[i] {
+                return failed();
+            }
+            i += 1;
+            continue;
+        }
+        if 2 < status {
+            return failed();
+        }
+        if !seen[i] {
+            return failed();
+        }
+        let reservation = t.reservation as u32;
+        if !quota_ok(reservation, t.allotment, m) {
+            return failed();
+        }
+        if !account_ok(t, meter) {
+            return failed();
+        }
+        let g = t.group as usize;
+        if GROUPS <= g {
+            return failed();
+        }
+        let home = groups[g];
+        if home.opened != 1 {
+            return failed();
+        }
+        used[g] = used[g] + reservation;
+        i += 1;
+    }
+    if running == Scheduler::THREADS {
+        return Pass {
+            ok: true,
+            used: used,
+        };
+    }
+    let r = running as usize;
+    let x = threads[r];
+    Pass {
+        ok: x.status == 1,
+        used: used,
+    }
+}
+
+// Parents have lower numbers: counted down, a group's children are added to it before it is tested.
+fn groups_ok(groups: [Group; 16], reserved: [u32; 16]) -> bool
+    requires { ⌜ Small reserved ⌝ }
+    ensures { λ r. ⌜ ((s : Scheduler) → Sums (having s groups) reserved → r ≡ groupsOk (having s groups)) ⌝ }
+{
+    let mut used = reserved;
+    let mut i: usize = GROUPS - 1;
+    while 0 < i {
+        let x = groups[i];
+        let opened = x.opened;
+        if opened == 0 {
+            i -= 1;
+            continue;
+        }
+        if 1 < opened {
+            return false;
+        }
+        let parent = x.parent as usize;
+        if i <= parent {
+            return false;
+        }
+        let home = groups[parent];
+        if home.opened != 1 {
+            return false;
+        }
+        let ceiling = x.ceiling as u32;
+        if ceiling < 1 {
+            return false;
+        }
+        if Scheduler::WHOLE < ceiling {
+            return false;
+        }
+        if ceiling < used[i] {
+            return false;
+        }
+        used[parent] = used[parent] + ceiling;
+        i -= 1;
+    }
+    let root = groups[0];
+    (root.opened == 1) & (root.ceiling as u32 == Scheduler::WHOLE) & (used[0] <= Scheduler::WHOLE)
 }
 
 impl Scheduler {
@@ -14,12 +230,39 @@ impl Scheduler {
     pub(crate) fn tested(self) -> Pass
         ensures { λ r. ⌜ Tested self (r .ok) (r .used) ⌝ }
     {
+        let settings = self.settings;
+        let meter = self.meter;
+        let count = self.count;
+        let running = self.running;
+        if !settings.ok() {
+            return failed();
+        }
+        if !meter_ok(meter, running) {
+            return failed();
+        }
+        if Self::THREADS < count {
+            return failed();
+        }
+        let order = self.order;
+        let list = list_seen(order, count);
+        if !list.ok {
+            return failed();
+        }
+        let seen = list.seen;
+        let groups = self.groups;
+        let threads = self.threads;
+        let pass = threads_pass(threads, groups, seen, settings.thousandth, meter, running);
+        if !pass.ok {
+            return failed();
+        }
+        let used = pass.used;
         Pass {
-            ok: true,
-            used: [0u32; 16],
+            ok: groups_ok(groups, used),
+            used: used,
         }
     }
 
+    // Whether the state is sound.
     pub fn sound(self) -> bool
         ensures { λ r. ⌜ r ≡ sound self ⌝ }
     {

@@ -1,0 +1,62 @@
+-- Laws that the passes of the soundness test share: two tests that say the same are equal, a test of every number below a bound fails
+-- where one fails, and a table of sums after one of them was raised.
+use Prim.Native.Nat.{ℕ, _+_, _≤_, _<_}
+use mathlib.Core.Path.{_≡_, refl, sym, subst, _∙_}
+use mathlib.Core.List.{List}
+use mathlib.Core.Bool.{Bool, true, false, cond, _||_}
+use native.Mathlib.Omega.{arith}
+use lib.ListN.{length, getD, set, replicate, length-set, getD-replicate}
+use lib.Seq.{getD-set-same, getD-set-other}
+use lib.Dec.{T, eqb}
+use borrow.Author.Tests.{eqb-true, eqb-false}
+use Rattle.order.specs.Lists.{everyBelow}
+use Rattle.order.proofs.Bools.{cases}
+use Rattle.order.proofs.Sums.{everyBelow-at}
+
+pub same : (a b : Bool) → (T a → T b) → (T b → T a) → a ≡ b
+same true true f g = refl
+same true false f g = absurd (f tt)
+same false true f g = absurd (g tt)
+same false false f g = refl
+
+-- what follows from a test that fails
+pub fails : (a b : Bool) → (T a → T b) → b ≡ false → false ≡ a
+fails true b f e = absurd (subst T e (f tt))
+fails false b f e = refl
+
+pub or-none : (b : Bool) → (b || false) ≡ b
+or-none true = refl
+or-none false = refl
+
+pub every-fails : (p : ℕ → Bool) (k n : ℕ) → n < k → p n ≡ false → false ≡ everyBelow p k
+every-fails p k n h e = fails (everyBelow p k) (p n) (λ t. everyBelow-at p k t n h) e
+
+-- one of the sums is raised by v, and the others stay
+pub bump : (u : List ℕ) (g v k : ℕ) → g < length u → getD (set u g (getD u g 0 + v)) k 0 ≡ getD u k 0 + cond (eqb g k) v 0
+bump u g v k h =
+    cases (eqb g k)
+    (λ e.
+    let q : g ≡ k = eqb-true g k e in
+    rw e (subst (λ (j : ℕ). getD (set u g (getD u g 0 + v)) j 0 ≡ getD u j 0 + v) q (getD-set-same u g (getD u g 0 + v) 0 h)))
+    (λ e. rw e (getD-set-other u g k (getD u g 0 + v) 0 (λ q. eqb-false g k e (sym q)) ∙ omega arith))
+
+pub cond-le : (b : Bool) (v : ℕ) → cond b v 0 ≤ v
+cond-le true v = omega arith
+cond-le false v = omega arith
+
+-- a table of 16 sums, none above a bound
+pub record Sized (top : ℕ) (used : List ℕ) : Type 0 where
+  pub size : length used ≡ 16
+  pub small : (g : ℕ) → g < 16 → getD used g 0 ≤ top
+
+pub sized-none : Sized 0 (replicate 16 0)
+sized-none = record { size = refl; small = λ g l. omega (arith, getD-replicate {A = ℕ} 16 g 0 0 l) }
+
+pub sized-more : (top more : ℕ) (used : List ℕ) → Sized top used → top ≤ more → Sized more used
+sized-more top more used t h = record { size = t .size; small = λ g l. omega (arith, t .small g l) }
+
+pub sized-add : (top more : ℕ) (used : List ℕ) → Sized top used → (p v : ℕ) → p < 16 → top + v ≤ more → Sized more (set used p (getD used p 0 + v))
+sized-add top more used t p v l h = record {
+  size = length-set used p (getD used p 0 + v) ∙ t .size;
+  small = λ g m. omega (arith, t .small g m, bump used p v g (omega (arith, t .size)), cond-le (eqb p g) v);
+}
