@@ -1,29 +1,18 @@
 -- The ways out of open, close and admit: which tests lead to which number, each the first check of the call that applies.
 use Prim.Native.Nat.{ℕ, _≤_, _<_}
-use mathlib.Core.Path.{_≡_, refl, sym, ap, _∙_}
-use mathlib.Core.List.{List, [], _∷_, _++_}
-use mathlib.Core.Bool.{Bool, true, false, not, cond, _&&_, _||_}
+use mathlib.Core.Path.{_≡_}
+use mathlib.Core.List.{[], _∷_}
+use mathlib.Core.Bool.{true, false, not}
 use native.Mathlib.Omega.{arith}
-use lib.Dec.{T, ltb, leb, eqb, lit<}
-use borrow.Author.Tests.{lt-ltb, le-ltb, le-leb, lt-leb, eq-eqb, ne-eqb, ltb-false, not-false}
-use Rattle.order.proofs.Bools.{by, holds}
+use lib.Dec.{ltb}
+use borrow.Author.Tests.{lt-ltb, le-ltb, le-leb, lt-leb, eq-eqb, ne-eqb}
+use Rattle.order.proofs.Bools.{holds}
 use Rattle.scheduler.specs.declared.Scheduler.{Scheduler}
-use Rattle.scheduler.specs.State.{admittedAt, openAt}
+use Rattle.scheduler.specs.State.{threadAt, admittedAt, openAt}
 use Rattle.scheduler.specs.Sound.{within, load, sound}
-use Rattle.scheduler.specs.Refusals.{Call, Check, openGroup, closeGroup, admit, _⇒_, firstOf, free, inUse, checks, refusal}
-use Rattle.scheduler.specs.Rule.{accept, refuse, step}
-use Rattle.scheduler.proofs.Facts.{facts, peel}
+use Rattle.scheduler.specs.Refusals.{openGroup, closeGroup, admit, _⇒_, firstOf, free, inUse, checks, refusal}
+use Rattle.scheduler.proofs.Facts.{facts}
 use Rattle.scheduler.proofs.Reserve.{in-use}
-
--- A call's reply by its number.
-
-pub step-accept : (c : Call) (s : Scheduler) → refusal c s ≡ 0 → accept c s ≡ step c s
-unfolding step
-step-accept c s e = rw e
-
-pub step-refuse : (c : Call) (s : Scheduler) (k : ℕ) → k ≡ refusal c s → (k ≡ 0 → ⊥) → refuse k s ≡ step c s
-unfolding step
-step-refuse c s k e ne = rw (sym e, ne-eqb k 0 ne)
 
 -- the checks of an amount
 abbrev pub amountChecks : ℕ → ℕ → ℕ
@@ -82,66 +71,26 @@ module _ (s : Scheduler) (n : ℕ) where
         unfolding refusal firstOf checks
         close-free l = rw (w, ne-eqb n 0 z, o, in-use s (facts s (holds (sound s) w)) n, eq-eqb (load s n) 0 l)
 
--- Admission: the number before the thread's entry is read, and the number after it.
-
-abbrev pub numberChecks : Bool → ℕ → ℕ
-numberChecks ok n = firstOf ((not ok ⇒ 16) ∷ (ltb 63 n ⇒ 7) ∷ [])
-
-module _ (ok : Bool) (n : ℕ) where
-  pub number-unsound : ok ≡ false → 16 ≡ numberChecks ok n
-  unfolding firstOf
-  number-unsound w = rw w
-
-  pub number-high : ok ≡ true → 64 ≤ n → 7 ≡ numberChecks ok n
-  unfolding firstOf
-  number-high w h = rw (w, lt-ltb 63 n (omega arith))
-
-  pub number-near : ok ≡ true → n < 64 → 0 ≡ numberChecks ok n
-  unfolding firstOf
-  number-near w h = rw (w, le-ltb 63 n (omega arith))
-
-pub record Near (ok : Bool) (n : ℕ) : Type 0 where
-  pub sound : ok ≡ true
-  pub small : n < 64
-
-pub near : (ok : Bool) (n : ℕ) → numberChecks ok n ≡ 0 → Near ok n
-near ok n e =
-    let k = peel (not ok ⇒ 16) ((ltb 63 n ⇒ 7) ∷ []) (lit< tt) e in
-    record { sound = not-false ok (k .0); small = omega (arith, ltb-false 63 n ((peel (ltb 63 n ⇒ 7) [] (lit< tt) (k .1)) .0)) }
-
--- two lists of checks, one after the other
-firstOf-more : (cs ds : List Check) → (firstOf cs ≡ 0 → ⊥) → firstOf cs ≡ firstOf (cs ++ ds)
-unfolding firstOf
-firstOf-more [] ds ne = absurd (ne refl)
-firstOf-more (c ∷ cs) ds ne =
-    (by (λ b. (cond b (c .number) (firstOf cs) ≡ 0 → ⊥) → cond b (c .number) (firstOf cs) ≡ cond b (c .number) (firstOf (cs ++ ds))) (c .applies)
-    (λ _ _. refl)
-    (λ _ u. firstOf-more cs ds u))
-    ne
-
-abbrev pub admitChecks : Bool → Bool → ℕ → ℕ → ℕ
-admitChecks admitted opened room d = firstOf ((admitted ⇒ 8) ∷ (not opened ⇒ 2) ∷ (not (within 1 1000 d) ⇒ 4) ∷ (ltb room d ⇒ 5) ∷ [])
-
 module _ (s : Scheduler) (n g d : ℕ) where
-  pub admit-early : (numberChecks (sound s) n ≡ 0 → ⊥) → numberChecks (sound s) n ≡ refusal (admit n g d) s
-  unfolding refusal checks
-  admit-early ne =
-      firstOf-more ((not (sound s) ⇒ 16) ∷ (ltb 63 n ⇒ 7) ∷ [])
-      ((admittedAt s n ⇒ 8) ∷ (not (openAt s g) ⇒ 2) ∷ (not (within 1 1000 d) ⇒ 4) ∷ (ltb (free s g) d ⇒ 5) ∷ []) ne
-
-  pub admit-late : Near (sound s) n → admitChecks (admittedAt s n) (openAt s g) (free s g) d ≡ refusal (admit n g d) s
+  pub admit-unsound : sound s ≡ false → 16 ≡ refusal (admit n g d) s
   unfolding refusal firstOf checks
-  admit-late k = rw (k .sound, le-ltb 63 n (omega (arith, k .small)))
+  admit-unsound w = rw w
 
-module _ (admitted opened : Bool) (room d : ℕ) where
-  pub admit-twice : admitted ≡ true → 8 ≡ admitChecks admitted opened room d
-  unfolding firstOf
-  admit-twice a = rw a
+  module _ (w : sound s ≡ true) where
+    pub admit-high : 64 ≤ n → 7 ≡ refusal (admit n g d) s
+    unfolding refusal firstOf checks
+    admit-high h = rw (w, lt-ltb 63 n (omega arith))
 
-  pub admit-nowhere : admitted ≡ false → opened ≡ false → 2 ≡ admitChecks admitted opened room d
-  unfolding firstOf
-  admit-nowhere a o = rw (a, o)
+    module _ (h : n < 64) where
+      pub admit-twice : 0 < (threadAt s n) .status → 8 ≡ refusal (admit n g d) s
+      unfolding refusal firstOf checks admittedAt
+      admit-twice a = rw (w, le-ltb 63 n (omega arith), lt-ltb 0 ((threadAt s n) .status) a)
 
-  pub admit-amount : admitted ≡ false → opened ≡ true → amountChecks room d ≡ admitChecks admitted opened room d
-  unfolding firstOf
-  admit-amount a o = rw (a, o)
+      module _ (a : (threadAt s n) .status ≤ 0) where
+        pub admit-nowhere : openAt s g ≡ false → 2 ≡ refusal (admit n g d) s
+        unfolding refusal firstOf checks admittedAt
+        admit-nowhere o = rw (w, le-ltb 63 n (omega arith), le-ltb 0 ((threadAt s n) .status) a, o)
+
+        pub admit-amount : openAt s g ≡ true → amountChecks (free s g) d ≡ refusal (admit n g d) s
+        unfolding refusal firstOf checks admittedAt
+        admit-amount o = rw (w, le-ltb 63 n (omega arith), le-ltb 0 ((threadAt s n) .status) a, o)

@@ -5,7 +5,7 @@ ghost use mathlib.Core.Bool.{true, not, cond, _&&_};
 ghost use mathlib.Core.List.{[], _∷_};
 ghost use Prim.Native.Nat.{_≤_, _<_};
 ghost use lib.Dec.{ltb, eqb};
-ghost use Rattle.scheduler.specs.State.{isOpen, openAt};
+ghost use Rattle.scheduler.specs.State.{isOpen, openAt, threadAt};
 ghost use Rattle.scheduler.specs.Sound.{within, ceilingsIn, load, sound};
 ghost use Rattle.scheduler.specs.Refusals.{_⇒_, firstOf, free, refusal, openGroup, closeGroup, admit};
 ghost use Rattle.scheduler.specs.Rule.{step};
@@ -162,9 +162,18 @@ fn close_code(ok: bool, groups: [Group; 16], used: u64, number: u64) -> u32
     0
 }
 
-// The number that admission of a thread is refused with before its entry is read, or 0.
-fn number_code(ok: bool, number: u64) -> u32
-    ensures { λ r. ⌜ r ≡ firstOf ((not ok ⇒ 16) ∷ (ltb 63 number ⇒ 7) ∷ []) ⌝ }
+// The number that admission of a thread is refused with, or 0. A number above 63 is refused whatever the status.
+fn admit_code(
+    ok: bool,
+    status: u8,
+    groups: [Group; 16],
+    used: u64,
+    number: u64,
+    group: u64,
+    reservation: u64,
+) -> u32
+    ensures { λ r. ⌜ ((s : Scheduler) → ok ≡ sound s → s .groups ≡ groups → (ok ≡ true → group < 16 → used ≡ load s group)
+        → (number < 64 → status ≡ (threadAt s number) .status) → r ≡ refusal (admit number group reservation) s) ⌝ }
 {
     if !ok {
         return 16;
@@ -172,14 +181,6 @@ fn number_code(ok: bool, number: u64) -> u32
     if Scheduler::THREADS as u64 <= number {
         return 7;
     }
-    0
-}
-
-// The number that admission is refused with after that, or 0.
-fn admit_code(status: u8, groups: [Group; 16], used: u64, group: u64, reservation: u64) -> u32
-    ensures { λ r. ⌜ ((s : Scheduler) → s .groups ≡ groups → (group < 16 → used ≡ load s group) → r
-        ≡ firstOf ((ltb 0 status ⇒ 8) ∷ (not (openAt s group) ⇒ 2) ∷ (not (within 1 1000 reservation) ⇒ 4) ∷ (ltb (free s group) reservation ⇒ 5) ∷ [])) ⌝ }
-{
     if 0 < status {
         return 8;
     }
@@ -266,34 +267,38 @@ impl Scheduler {
         ensures { λ r. ⌜ replyOf r ≡ step (admit number group reservation) self ⌝ }
     {
         let test = self.tested();
-        let first = number_code(test.ok, number);
-        let mut answer = Answer::Refused(first);
-        if first == 0 {
-            let at = number as usize;
-            let old = self.threads[at];
-            let reserved = test.used;
-            let groups = self.groups;
-            let used = load_of(groups, reserved, group);
-            let code = admit_code(old.status, groups, used, group, reservation);
-            answer = Answer::Refused(code);
-            if code == 0 {
-                let meter = self.meter;
-                let count = self.count;
-                self.threads[at] = Thread {
-                    admission: meter,
-                    anchor: meter,
-                    ticks: 0,
-                    since: 0,
-                    allotment: reservation as u32 * self.settings.thousandth,
-                    reservation: reservation as u16,
-                    group: group as u8,
-                    status: 1,
-                };
-                let rear = count as usize;
-                self.order[rear] = number as u8;
-                self.count = count + 1;
-                answer = Answer::Accepted;
-            }
+        let reserved = test.used;
+        let groups = self.groups;
+        let used = load_of(groups, reserved, group);
+        let at = (number % 64) as usize;
+        let old = self.threads[at];
+        let code = admit_code(
+            test.ok,
+            old.status,
+            groups,
+            used,
+            number,
+            group,
+            reservation,
+        );
+        let mut answer = Answer::Refused(code);
+        if code == 0 {
+            let meter = self.meter;
+            let count = self.count;
+            self.threads[at] = Thread {
+                admission: meter,
+                anchor: meter,
+                ticks: 0,
+                since: 0,
+                allotment: reservation as u32 * self.settings.thousandth,
+                reservation: reservation as u16,
+                group: group as u8,
+                status: Thread::RUNNABLE,
+            };
+            let rear = count as usize;
+            self.order[rear] = number as u8;
+            self.count = count + 1;
+            answer = Answer::Accepted;
         }
         Answered {
             answer: answer,

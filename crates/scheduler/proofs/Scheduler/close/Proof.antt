@@ -7,11 +7,10 @@ use Rattle.scheduler.specs.declared.Scheduler.{Scheduler}
 use Rattle.scheduler.specs.State.{withGroup}
 use Rattle.scheduler.specs.Refusals.{Call, closeGroup, refusal}
 use Rattle.scheduler.specs.Effects.{effect}
-use Rattle.scheduler.specs.Rule.{isDispatch, accept, refuse}
-use Rattle.scheduler.specs.Answers.{lineOf, replyOf}
+use Rattle.scheduler.specs.Rule.{isDispatch}
 use Rattle.scheduler.proofs.Facts.{open-small}
 use Rattle.scheduler.proofs.Passed.{passes, close-ok}
-use Rattle.scheduler.proofs.ReserveCodes.{step-accept, step-refuse}
+use Rattle.scheduler.proofs.Replies.{accepted, refused}
 use Rattle.scheduler.proofs.Scheduler.close.Statement.{statement}
 use Rattle.scheduler.proofs.Scheduler.close.Tie as tie
 
@@ -27,13 +26,13 @@ module _ (c : tie.After-close-code) where
       let test = c .before .before .before .before .tested .ensures in
       c .close-code .ensures S (test .test) refl (λ w. c .before .load-of .ensures S refl (test .sums w))
 
-accepted : (c : tie.Then1) → refusal (call (c .before)) (S (c .before)) ≡ 0
-accepted c = sym (number (c .before)) ∙ c .if1 .taken
+clear : (c : tie.Then1) → refusal (call (c .before)) (S (c .before)) ≡ 0
+clear c = sym (number (c .before)) ∙ c .if1 .taken
 
 small : (c : tie.Then1) → c .before .before .before .before .before .before .args .number < 16
 small c =
     let n = c .before .before .before .before .before .before .args .number in
-    open-small (S (c .before)) n ((close-ok (S (c .before)) n ((passes (call (c .before)) (S (c .before)) (accepted c)) .1)) .opened)
+    open-small (S (c .before)) n ((close-ok (S (c .before)) n ((passes (call (c .before)) (S (c .before)) (clear c)) .1)) .opened)
 
 tested-requires : tie.Need-tested-requires
 tested-requires c κs = search needs
@@ -51,12 +50,11 @@ element-set-from-self : tie.Need-element-set-from-self
 element-set-from-self c = small c
 
 returns : tie.Need-returns
-unfolding replyOf lineOf accept isDispatch effect withGroup
-returns c = step-accept (call (c .before)) (S (c .before)) (accepted c)
+unfolding isDispatch effect withGroup
+returns c = accepted (call (c .before)) (S (c .before)) _ refl (clear c) refl
 
 returns-2 : tie.Need-returns-2
-unfolding replyOf lineOf refuse
-returns-2 c = step-refuse (call (c .before)) (S (c .before)) (c .before .close-code .result) (number (c .before)) (c .if1 .left)
+returns-2 c = refused (call (c .before)) (S (c .before)) (c .before .close-code .result) (number (c .before)) (c .if1 .left)
 
 pub close-spec : {M : Type 1} → statement M
 close-spec =

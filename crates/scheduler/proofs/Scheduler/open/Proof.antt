@@ -6,11 +6,9 @@ use Rattle.scheduler.specs.declared.Scheduler.{Scheduler}
 use Rattle.scheduler.specs.State.{withGroup}
 use Rattle.scheduler.specs.Refusals.{Call, openGroup, refusal}
 use Rattle.scheduler.specs.Effects.{effect}
-use Rattle.scheduler.specs.Rule.{isDispatch, accept, refuse}
-use Rattle.scheduler.specs.Answers.{lineOf, replyOf}
-use Rattle.scheduler.proofs.Facts.{open-small}
+use Rattle.scheduler.specs.Rule.{isDispatch}
 use Rattle.scheduler.proofs.Passed.{OpenOk, passes, open-ok}
-use Rattle.scheduler.proofs.ReserveCodes.{step-accept, step-refuse}
+use Rattle.scheduler.proofs.Replies.{accepted, refused}
 use Rattle.scheduler.proofs.Scheduler.open.Statement.{statement}
 use Rattle.scheduler.proofs.Scheduler.open.Tie as tie
 
@@ -28,15 +26,15 @@ module _ (c : tie.After-open-code) where
       let test = c .before .before .before .before .tested .ensures in
       c .open-code .ensures S (test .test) refl (λ w. c .before .load-of .ensures S refl (test .sums w))
 
-accepted : (c : tie.Then1) → refusal (call (c .before)) (S (c .before)) ≡ 0
-accepted c = sym (number (c .before)) ∙ c .if1 .taken
+clear : (c : tie.Then1) → refusal (call (c .before)) (S (c .before)) ≡ 0
+clear c = sym (number (c .before)) ∙ c .if1 .taken
 
 passed : (c : tie.Then1) →
     let a = c .before .before .before .before .before .before in
     OpenOk (S (c .before)) (a .args .number) (a .args .parent) (a .args .ceiling)
 passed c =
     let a = c .before .before .before .before .before .before in
-    open-ok (S (c .before)) (a .args .number) (a .args .parent) (a .args .ceiling) ((passes (call (c .before)) (S (c .before)) (accepted c)) .1)
+    open-ok (S (c .before)) (a .args .number) (a .args .parent) (a .args .ceiling) ((passes (call (c .before)) (S (c .before)) (clear c)) .1)
 
 tested-requires : tie.Need-tested-requires
 tested-requires c κs = search needs
@@ -60,12 +58,11 @@ element-set-from-self : tie.Need-element-set-from-self
 element-set-from-self c = (passed c) .small
 
 returns : tie.Need-returns
-unfolding replyOf lineOf accept isDispatch effect withGroup
-returns c = step-accept (call (c .before)) (S (c .before)) (accepted c)
+unfolding isDispatch effect withGroup
+returns c = accepted (call (c .before)) (S (c .before)) _ refl (clear c) refl
 
 returns-2 : tie.Need-returns-2
-unfolding replyOf lineOf refuse
-returns-2 c = step-refuse (call (c .before)) (S (c .before)) (c .before .open-code .result) (number (c .before)) (c .if1 .left)
+returns-2 c = refused (call (c .before)) (S (c .before)) (c .before .open-code .result) (number (c .before)) (c .if1 .left)
 
 pub open-spec : {M : Type 1} → statement M
 open-spec =
