@@ -3,7 +3,7 @@
 ghost use mathlib.Core.Path.{_≡_};
 ghost use mathlib.Core.Bool.{true, not, cond, _||_};
 ghost use mathlib.Core.List.{[], _∷_, _++_};
-ghost use Prim.Native.Nat.{_-_, _*_, min, _≤_, _<_};
+ghost use Prim.Native.Nat.{_+_, _-_, _*_, min, _≤_, _<_};
 ghost use lib.Dec.{ltb, leb, eqb};
 ghost use lib.ListN.{take, drop};
 ghost use Rattle.order.specs.Queue.{requeue};
@@ -28,6 +28,14 @@ pub const BLOCK: u64 = 1;
 pub const YIELD: u64 = 2;
 
 pub const EXIT: u64 = 3;
+
+// The meter, or a thread's own count, after a report of the ticks used.
+fn charge(total: u64, used: u64) -> u64
+    requires { ⌜ (total ≤ 10000001000000) × (used ≤ 1000000) ⌝ }
+    ensures { λ r. ⌜ r ≡ total + used ⌝ }
+{
+    total + used
+}
 
 impl Thread {
     pub const RUNNABLE: u8 = 1;
@@ -57,6 +65,18 @@ impl Thread {
             self.allotment
         } else {
             interval
+        }
+    }
+
+    // The answer of a dispatch that takes this thread, with a number of threads before it.
+    fn taken(self, number: u32, interval: u32, before: u32) -> Answer
+        ensures { λ r. ⌜ r ≡ Answer.Run number (min (self .allotment) interval) before ⌝ }
+    {
+        let slice = self.slice(interval);
+        Answer::Run {
+            thread: number,
+            slice: slice,
+            before: before,
         }
     }
 
@@ -100,26 +120,27 @@ impl Thread {
         self.allotment - used as u32
     }
 
-    // The thread after a report, which finds the meter at `meter`.
+    // The thread after a report, which leaves the meter at `meter`.
     fn charged(mut self, meter: u64, thousandth: u32, reason: u64, used: u64) -> Self
         requires { ⌜ (thousandth ≤ 1000)
             × (used ≤ 1000000)
-            × (meter ≤ 10000001000000)
             × (self .ticks ≤ 10000001000000)
             × (self .since ≤ 10000001000000) ⌝ }
-        ensures { λ r. ⌜ ((s : Scheduler) → s .meter ≡ meter → s .settings .thousandth ≡ thousandth
+        ensures { λ r. ⌜ ((s : Scheduler) → s .meter + used ≡ meter → s .settings .thousandth ≡ thousandth
             → r ≡ cond (eqb reason 3) noThread (chargedThread s reason used self)) ⌝ }
     {
         if reason == EXIT {
             return Self::none();
         }
         let allotment = self.remaining(thousandth, reason, used);
+        let ticks = charge(self.ticks, used);
+        let since = charge(self.since, used);
         self.allotment = allotment;
-        self.ticks = self.ticks + used;
-        self.since = self.since + used;
+        self.ticks = ticks;
+        self.since = since;
         self.status = Self::RUNNABLE;
         if reason == YIELD {
-            self.anchor = meter + used;
+            self.anchor = meter;
             self.since = 0;
             return self;
         }
@@ -372,14 +393,9 @@ impl Scheduler {
             } else {
                 let number = self.order[before as usize];
                 let thread = self.threads[number as usize];
-                let slice = thread.slice(self.settings.interval);
                 let chosen = number as u32;
+                answer = thread.taken(chosen, self.settings.interval, before);
                 self.running = chosen;
-                answer = Answer::Run {
-                    thread: chosen,
-                    slice: slice,
-                    before: before,
-                };
             }
         }
         Answered {
@@ -400,9 +416,9 @@ impl Scheduler {
         let code = report_code(ok, running, reason, slice, used);
         let mut answer = Answer::Refused(code);
         if code == 0 {
-            let meter = self.meter;
             let count = self.count;
             let list = self.order;
+            let meter = charge(self.meter, used);
             let moves = thread.moves(reason, used);
             let charged = thread.charged(meter, self.settings.thousandth, reason, used);
             let moved = requeued(list, count as usize, running as u8, moves);
@@ -410,7 +426,7 @@ impl Scheduler {
             self.order = moved;
             self.count = count_after(count, reason);
             self.running = Self::THREADS;
-            self.meter = meter + used;
+            self.meter = meter;
             answer = Answer::Accepted;
         }
         Answered {

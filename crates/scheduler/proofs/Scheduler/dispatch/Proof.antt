@@ -66,11 +66,11 @@ mul-thread c = omega (arith, small (c .before))
 element-copy-out-thread : tie.Need-element-copy-out-thread
 element-copy-out-thread c = small (c .before)
 
-slice-requires : tie.Need-slice-requires
-slice-requires c κs = search needs
-
 cast-chosen : tie.Need-cast-chosen
 cast-chosen c = search needs
+
+taken-requires : tie.Need-taken-requires
+taken-requires c κs = search needs
 
 returns : tie.Need-returns
 returns c = let e = c .before .before in dispatch-idle (S e) (clear e) (c .before .passed .result) (c .before .passed .ensures) (c .if2 .taken)
@@ -80,7 +80,7 @@ unfolding withRun
 returns-2 c =
     let d = c .before .before .before in
     let e = E d in
-    dispatch-run (S e) (clear e) (n d) (d .before .passed .ensures) (here d) (c .slice .result) (c .slice .ensures)
+    dispatch-run (S e) (clear e) (n d) (d .before .passed .ensures) (here d) (c .taken .result) (c .taken .ensures)
 
 returns-3 : tie.Need-returns-3
 returns-3 c = refused dispatch (c .before .before .before .args .t1) (c .before .dispatch-code .result) (number (c .before)) (c .if1 .left)
@@ -97,8 +97,8 @@ dispatch-spec =
     cast-thread
     mul-thread
     element-copy-out-thread
-    slice-requires
     cast-chosen
+    taken-requires
     returns
     returns-2
     returns-3)

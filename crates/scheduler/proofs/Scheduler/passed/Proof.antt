@@ -61,7 +61,7 @@ returns c =
     let i = c .before .before .before .loop .i in
     omega (
       arith,
-      stop (runnableAt (S s)) (S s .order) (S s .count) i (omega (arith, k s .order64, k s .count64)) (eq-eqb ((threadAt (S s) (getD (S s .order) i 0)) .status) 1 (c .if1 .taken)),
+      stop (runnableAt (S s)) (S s .order) (S s .count) i (omega (arith, k s .order64, k s .count64)) (eq-eqb ((threadAt (S s) (getD (S s .order) i 0)) .status) 1 (omega arith)),
     )
 
 add-i : tie.Need-add-i Inv-loop μ-loop
@@ -77,7 +77,7 @@ loop-again c =
     let i = c .before .before .before .loop .i in
     omega (
       arith,
-      go (runnableAt (S s)) (S s .order) (S s .count) i (omega (arith, k s .order64, k s .count64)) (ne-eqb ((threadAt (S s) (getD (S s .order) i 0)) .status) 1 (c .if1 .left)),
+      go (runnableAt (S s)) (S s .order) (S s .count) i (omega (arith, k s .order64, k s .count64)) (ne-eqb ((threadAt (S s) (getD (S s .order) i 0)) .status) 1 (λ e. omega (arith, c .if1 .left))),
     )
 
 returns-2 : tie.Need-returns-2 Inv-loop μ-loop
