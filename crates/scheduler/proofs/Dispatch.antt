@@ -11,7 +11,7 @@ use lib.Dec.{T, ltb, leb, eqb, ltb→lt}
 use borrow.Author.Tests.{ne-eqb}
 use Rattle.order.proofs.Bools.{and-l}
 use Rattle.order.proofs.Lists.{passed-at}
-use Rattle.order.proofs.Queue.{everyOf-entry, getD-any, passed-most}
+use Rattle.order.proofs.Queue.{everyOf-entry, getD-any}
 use Rattle.scheduler.specs.declared.Scheduler.{Scheduler}
 use Rattle.scheduler.specs.declared.Answer.{Answer}
 use Rattle.scheduler.specs.declared.Answer.the-variants.{Idle, Run}
@@ -52,10 +52,6 @@ module _ (s : Scheduler) (e : refusal dispatch s ≡ 0) where
   replied = step-state dispatch s e
 
   module _ (n : ℕ) (q : n ≡ passedOver s) where
-    pub inside : (n ≡ s .count → ⊥) → n < s .count
-    unfolding passedOver
-    inside ne = omega (arith, passed-most (runnableAt s) (listed s), length-listed s dispatch-facts, ne, q)
-
     found : n < s .count → getD (s .order) n 0 ≡ chosen s
     unfolding passedOver chosen listed
     found h =

@@ -10,7 +10,7 @@ ghost use Rattle.order.specs.Queue.{requeue};
 ghost use Rattle.scheduler.specs.State.{noThread, noGroup};
 ghost use Rattle.scheduler.specs.Sound.{sound};
 ghost use Rattle.scheduler.specs.Refusals.{remove, wake, dispatch, report, _⇒_, firstOf, startRefusal};
-ghost use Rattle.scheduler.specs.Effects.{renewed, chargedThread, wokenThread, passedOver, unstarted};
+ghost use Rattle.scheduler.specs.Effects.{renewed, chargedThread, wokenThread, unstarted};
 ghost use Rattle.scheduler.specs.Rule.{step, startReply};
 ghost use Rattle.scheduler.specs.Answers.{replyOf};
 use crate::Answer;
@@ -361,25 +361,7 @@ impl Scheduler {
         }
     }
 
-    // How many threads stand before the first runnable one: all of them where none is runnable.
-    fn passed(self) -> u32
-        requires { ⌜ sound self ≡ true ⌝ }
-        ensures { λ r. ⌜ r ≡ passedOver self ⌝ }
-    {
-        let count = self.count;
-        let mut i: u32 = 0;
-        while i < count {
-            let number = self.order[i as usize];
-            let status = self.threads[number as usize].status;
-            if status == Thread::RUNNABLE {
-                return i;
-            }
-            i += 1;
-        }
-        i
-    }
-
-    // Takes the first runnable thread of the list.
+    // Takes the first runnable thread of the list. `before` counts the entries passed, which are blocked.
     pub fn dispatch(mut self) -> Answered
         ensures { λ r. ⌜ replyOf r ≡ step dispatch self ⌝ }
     {
@@ -387,16 +369,24 @@ impl Scheduler {
         let code = dispatch_code(ok, self.running, self.meter);
         let mut answer = Answer::Refused(code);
         if code == 0 {
-            let before = self.passed();
-            if before == self.count {
-                answer = Answer::Idle(before);
-            } else {
+            let count = self.count;
+            let mut before: u32 = 0;
+            while before < count {
                 let number = self.order[before as usize];
                 let thread = self.threads[number as usize];
-                let chosen = number as u32;
-                answer = thread.taken(chosen, self.settings.interval, before);
-                self.running = chosen;
+                let status = thread.status;
+                if status == Thread::RUNNABLE {
+                    let chosen = number as u32;
+                    let run = thread.taken(chosen, self.settings.interval, before);
+                    self.running = chosen;
+                    return Answered {
+                        answer: run,
+                        state: self,
+                    };
+                }
+                before += 1;
             }
+            answer = Answer::Idle(before);
         }
         Answered {
             answer: answer,
