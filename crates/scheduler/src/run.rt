@@ -1,14 +1,13 @@
 // Start, and the calls on threads: remove, wake, dispatch and report. Each decides its answer first and then writes the state.
 // A thread number above 63 is refused whatever the entry that stands for it holds.
 ghost use mathlib.Core.Path.{_≡_};
-ghost use mathlib.Core.Bool.{true, not, cond, _||_};
+ghost use mathlib.Core.Bool.{not, cond, _||_};
 ghost use mathlib.Core.List.{[], _∷_, _++_};
 ghost use Prim.Native.Nat.{_+_, _-_, _*_, min, _≤_, _<_};
 ghost use lib.Dec.{ltb, leb, eqb};
 ghost use lib.ListN.{take, drop};
 ghost use Rattle.order.specs.Queue.{requeue};
-ghost use Rattle.scheduler.specs.State.{noThread, noGroup};
-ghost use Rattle.scheduler.specs.Sound.{sound};
+ghost use Rattle.scheduler.specs.State.{noThread};
 ghost use Rattle.scheduler.specs.Refusals.{remove, wake, dispatch, report, _⇒_, firstOf, startRefusal};
 ghost use Rattle.scheduler.specs.Effects.{renewed, chargedThread, wokenThread, unstarted};
 ghost use Rattle.scheduler.specs.Rule.{step, startReply};
@@ -321,7 +320,7 @@ impl Scheduler {
         ensures { λ r. ⌜ replyOf r ≡ step (remove number) self ⌝ }
     {
         let ok = self.sound();
-        let at = (number % 64) as usize;
+        let at = (number % Self::THREADS as u64) as usize;
         let status = self.threads[at].status;
         let code = remove_code(ok, number, status, self.running);
         let mut answer = Answer::Refused(code);
@@ -346,7 +345,7 @@ impl Scheduler {
         ensures { λ r. ⌜ replyOf r ≡ step (wake number) self ⌝ }
     {
         let ok = self.sound();
-        let at = (number % 64) as usize;
+        let at = (number % Self::THREADS as u64) as usize;
         let thread = self.threads[at];
         let code = wake_code(ok, number, thread.status);
         let mut answer = Answer::Refused(code);
@@ -400,7 +399,7 @@ impl Scheduler {
     {
         let ok = self.sound();
         let running = self.running;
-        let at = (running % 64) as usize;
+        let at = (running % Self::THREADS) as usize;
         let thread = self.threads[at];
         let slice = thread.slice(self.settings.interval);
         let code = report_code(ok, running, reason, slice, used);

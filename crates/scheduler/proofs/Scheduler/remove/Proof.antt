@@ -23,6 +23,12 @@ module _ (c : tie.Then1) where
 sound-requires : tie.Need-sound-requires
 sound-requires c κs = search needs
 
+cast-at : tie.Need-cast-at
+cast-at c = search needs
+
+rem-at : tie.Need-rem-at
+rem-at c = search needs
+
 mul-status : tie.Need-mul-status
 mul-status c = search needs
 
@@ -67,6 +73,8 @@ remove-spec =
     tie.close
     (tie.spec
     sound-requires
+    cast-at
+    rem-at
     mul-status
     element-copy-out-status
     remove-code-requires
