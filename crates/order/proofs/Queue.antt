@@ -41,13 +41,6 @@ module _ (p : ℕ → Bool) (o : List ℕ) (n i : ℕ) where
       let k : length (take n o) ≤ i = simp length-take (omega arith) in
       rw (drop-of-length-le (take n o) {i = i} k)
 
-pub passed-most : (p : ℕ → Bool) (l : List ℕ) → passed p l ≤ length l
-unfolding passed
-passed-most p [] = omega arith
-passed-most p (n ∷ l) =
-    let ih = passed-most p l in
-    by (λ b. cond b 0 (suc (passed p l)) ≤ suc (length l)) (p n) (λ e. omega arith) (λ e. omega arith)
-
 -- an entry of a list whose entries all pass
 pub everyOf-entry : (p : ℕ → Bool) (l : List ℕ) (i : ℕ) → T (everyOf p l) → i < length l → T (p (getD l i 0))
 unfolding everyOf

@@ -11,8 +11,9 @@ use lib.Dec.{T, ltb, leb, eqb, ltb→lt}
 use borrow.Author.Tests.{ne-eqb}
 use Rattle.order.proofs.Bools.{and-l}
 use Rattle.order.proofs.Lists.{passed-at}
-use Rattle.order.proofs.Queue.{everyOf-entry, getD-any, passed-most}
+use Rattle.order.proofs.Queue.{everyOf-entry, getD-any}
 use Rattle.scheduler.specs.declared.Scheduler.{Scheduler}
+use Rattle.scheduler.specs.declared.Answer.{Answer}
 use Rattle.scheduler.specs.declared.Answer.the-variants.{Idle, Run}
 use Rattle.scheduler.specs.State.{threadAt, runnableAt, reservedAt, allotmentAt, sliceAt, listed, withRun}
 use Rattle.scheduler.specs.Sound.{sound}
@@ -51,10 +52,6 @@ module _ (s : Scheduler) (e : refusal dispatch s ≡ 0) where
   replied = step-state dispatch s e
 
   module _ (n : ℕ) (q : n ≡ passedOver s) where
-    pub inside : (n ≡ s .count → ⊥) → n < s .count
-    unfolding passedOver
-    inside ne = omega (arith, passed-most (runnableAt s) (listed s), length-listed s dispatch-facts, ne, q)
-
     found : n < s .count → getD (s .order) n 0 ≡ chosen s
     unfolding passedOver chosen listed
     found h =
@@ -77,12 +74,12 @@ module _ (s : Scheduler) (e : refusal dispatch s ≡ 0) where
         ∙ ap (λ (r : ℕ). lineOf (Idle (passedOver s)) (withRun s r (s .meter))) (dispatch-passed s ((passes dispatch s e) .1))
         ∙ sym (replied ∙ ap (taking s) (none h))
 
-    pub dispatch-run : n < s .count → (v : ℕ) → v ≡ min ((threadAt s (getD (s .order) n 0)) .allotment) (s .settings .interval)
-        → replyOf (answered (Run (getD (s .order) n 0) v n) (withRun s (getD (s .order) n 0) (s .meter))) ≡ step dispatch s
+    pub dispatch-run : n < s .count → (a : Answer) → a ≡ Run (getD (s .order) n 0) (min ((threadAt s (getD (s .order) n 0)) .allotment) (s .settings .interval)) n
+        → replyOf (answered a (withRun s (getD (s .order) n 0) (s .meter))) ≡ step dispatch s
     unfolding replyOf lineOf sliceAt allotmentAt
-    dispatch-run h v w =
+    dispatch-run h a w =
         let x = getD (s .order) n 0 in
         let off : eqb x 64 ≡ false = ne-eqb x 64 (λ z. omega (arith, entry s dispatch-facts n h)) in
-        ap (λ (j : ℕ). lineOf (Run x v j) (withRun s x (s .meter))) q
-        ∙ ap (λ (j : ℕ). lineOf (Run x j (passedOver s)) (withRun s x (s .meter))) w
+        ap (λ (b : Answer). lineOf b (withRun s x (s .meter))) w
+        ∙ ap (λ (j : ℕ). lineOf (Run x (min ((threadAt s x) .allotment) (s .settings .interval)) j) (withRun s x (s .meter))) q
         ∙ sym (replied ∙ ap (taking s) (sym (found h)) ∙ rw off)

@@ -1,19 +1,19 @@
--- Report. The thread after a report, a case for each reason; the refusal's number, which the entry at the running thread's rest by 64
--- decides; what soundness gives an accepted report; and the whole new state, which is `reported`.
-use Prim.Native.Nat.{ℕ, zero, suc, _+_, _-_, _*_, _%_, min, _≤_, _<_}
+-- Report: the refusal's number, which the entry at the running thread's rest by 64 decides; what soundness gives an accepted report; and
+-- the whole new state, which is `reported`.
+use Prim.Native.Nat.{ℕ, _+_, _-_, _%_, min, _≤_}
 use mathlib.Core.Path.{_≡_, refl, sym, ap, subst, _∙_}
 use mathlib.Core.List.{List, [], _∷_, _++_}
 use mathlib.Core.Bool.{Bool, true, false, not, cond, _||_}
 use native.Mathlib.Omega.{arith}
-use lib.ListN.{length, take, drop, set}
-use lib.Dec.{T, ltb, leb, eqb}
-use borrow.Author.Tests.{eqb-false, ne-eqb}
+use lib.ListN.{take, drop, set}
+use lib.Dec.{ltb, eqb}
+use borrow.Author.Tests.{eqb-false}
 use Rattle.order.specs.Queue.{requeue}
 use Rattle.order.proofs.Bools.{cases, holds}
 use Rattle.scheduler.specs.declared.Thread.{Thread}
 use Rattle.scheduler.specs.declared.Scheduler.{Scheduler}
 use Rattle.scheduler.specs.declared.Answer.the-variants.{Accepted}
-use Rattle.scheduler.specs.State.{noThread, threadAt, admittedAt, sliceAt, allotmentAt, quantum, listed, stateOf, withThread, withList, withRun}
+use Rattle.scheduler.specs.State.{noThread, threadAt, sliceAt, allotmentAt, listed, stateOf, withThread, withList, withRun}
 use Rattle.scheduler.specs.Sound.{sound}
 use Rattle.scheduler.specs.Refusals.{report, _⇒_, firstOf, checks, refusal}
 use Rattle.scheduler.specs.Effects.{rear, toRear, offList, renewed, chargedThread, charged, exited, reported, effect}
@@ -22,55 +22,6 @@ use Rattle.scheduler.specs.Answers.{replyOf}
 use Rattle.scheduler.proofs.Facts.{facts, settings-facts}
 use Rattle.scheduler.proofs.Passed.{passes, report-passed}
 use Rattle.scheduler.proofs.Replies.{answered, accepted, rest, Listed, is-listed}
-
--- The thread after a report.
-
-module _ (s : Scheduler) (used meter thousandth a : ℕ) (t : Thread) (e : s .meter ≡ meter) (f : s .settings .thousandth ≡ thousandth) where
-  -- what `remaining` ensures
-  abbrev Left : ℕ → Type 0
-  Left reason = a ≡ cond (renewed reason used t) (t .reservation * thousandth) (t .allotment - used)
-
-  pub charged-tick : (reason : ℕ) → Left reason → (reason ≡ 3 → ⊥) → (reason ≡ 2 → ⊥) → (reason ≡ 1 → ⊥)
-      → _≡_ {A = Thread} record {
-        admission = t .admission;
-        anchor = t .anchor;
-        ticks = t .ticks + used;
-        since = t .since + used;
-        allotment = a;
-        reservation = t .reservation;
-        group = t .group;
-        status = 1;
-      } (cond (eqb reason 3) noThread (chargedThread s reason used t))
-  unfolding chargedThread
-  charged-tick reason q x y z = rw (ne-eqb reason 3 x, ne-eqb reason 2 y, ne-eqb reason 1 z, f, q)
-
-  pub charged-block : (reason : ℕ) → Left reason → reason ≡ 1
-      → _≡_ {A = Thread} record {
-        admission = t .admission;
-        anchor = t .anchor;
-        ticks = t .ticks + used;
-        since = t .since + used;
-        allotment = a;
-        reservation = t .reservation;
-        group = t .group;
-        status = 2;
-      } (cond (eqb reason 3) noThread (chargedThread s reason used t))
-  unfolding chargedThread
-  charged-block reason q x = rw (q, x, f)
-
-  pub charged-yield : (reason : ℕ) → Left reason → reason ≡ 2
-      → _≡_ {A = Thread} record {
-        admission = t .admission;
-        anchor = meter + used;
-        ticks = t .ticks + used;
-        since = 0;
-        allotment = a;
-        reservation = t .reservation;
-        group = t .group;
-        status = 1;
-      } (cond (eqb reason 3) noThread (chargedThread s reason used t))
-  unfolding chargedThread
-  charged-yield reason q x = rw (q, x, f, e)
 
 -- The number.
 
@@ -141,13 +92,13 @@ module _ (s : Scheduler) (reason used : ℕ) where
     pub report-done : (t : Thread) → t ≡ cond (eqb reason 3) noThread (chargedThread s reason used (threadAt s (s .running % 64)))
         → (moves : Bool) → moves ≡ (eqb reason 3 || renewed reason used (threadAt s (s .running % 64)))
         → (list : List ℕ) → list ≡ cond moves (requeue (s .running) (take (s .count) (s .order)) ++ drop (s .count) (s .order)) (s .order)
+        → (meter : ℕ) → meter ≡ s .meter + used
         → (count : ℕ) → count ≡ cond (eqb reason 3) (s .count - 1) (s .count)
-        → replyOf (answered Accepted (stateOf (set (s .threads) (s .running % 64) t) list (s .groups) (s .meter + used) (s .settings) count 64))
-        ≡ step (report reason used) s
+        → replyOf (answered Accepted (stateOf (set (s .threads) (s .running % 64) t) list (s .groups) meter (s .settings) count 64)) ≡ step (report reason used) s
     unfolding effect isDispatch reported
-    report-done t q1 moves q2 list q3 count q4 =
+    report-done t q1 moves q2 list q3 meter q4 count q5 =
         let at = ready .list .at in
         let moved = ready .list .moved in
-        accepted (report reason used) s (stateOf (set (s .threads) (s .running % 64) t) list (s .groups) (s .meter + used) (s .settings) count 64) refl e
+        accepted (report reason used) s (stateOf (set (s .threads) (s .running % 64) t) list (s .groups) meter (s .settings) count 64) refl e
         ((cc)
         ∙ settled (eqb reason 3) (renewed reason used (threadAt s (s .running))))

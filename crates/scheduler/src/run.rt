@@ -1,16 +1,15 @@
 // Start, and the calls on threads: remove, wake, dispatch and report. Each decides its answer first and then writes the state.
 // A thread number above 63 is refused whatever the entry that stands for it holds.
 ghost use mathlib.Core.Path.{_≡_};
-ghost use mathlib.Core.Bool.{true, not, cond, _||_};
+ghost use mathlib.Core.Bool.{not, cond, _||_};
 ghost use mathlib.Core.List.{[], _∷_, _++_};
-ghost use Prim.Native.Nat.{_-_, _*_, min, _≤_, _<_};
+ghost use Prim.Native.Nat.{_+_, _-_, _*_, min, _≤_, _<_};
 ghost use lib.Dec.{ltb, leb, eqb};
 ghost use lib.ListN.{take, drop};
 ghost use Rattle.order.specs.Queue.{requeue};
-ghost use Rattle.scheduler.specs.State.{noThread, noGroup};
-ghost use Rattle.scheduler.specs.Sound.{sound};
+ghost use Rattle.scheduler.specs.State.{noThread};
 ghost use Rattle.scheduler.specs.Refusals.{remove, wake, dispatch, report, _⇒_, firstOf, startRefusal};
-ghost use Rattle.scheduler.specs.Effects.{renewed, chargedThread, wokenThread, passedOver, unstarted};
+ghost use Rattle.scheduler.specs.Effects.{renewed, chargedThread, wokenThread, unstarted};
 ghost use Rattle.scheduler.specs.Rule.{step, startReply};
 ghost use Rattle.scheduler.specs.Answers.{replyOf};
 use crate::Answer;
@@ -28,6 +27,14 @@ pub const BLOCK: u64 = 1;
 pub const YIELD: u64 = 2;
 
 pub const EXIT: u64 = 3;
+
+// The meter, or a thread's own count, after a report of the ticks used.
+fn charge(total: u64, used: u64) -> u64
+    requires { ⌜ (total ≤ 10000001000000) × (used ≤ 1000000) ⌝ }
+    ensures { λ r. ⌜ r ≡ total + used ⌝ }
+{
+    total + used
+}
 
 impl Thread {
     pub const RUNNABLE: u8 = 1;
@@ -57,6 +64,18 @@ impl Thread {
             self.allotment
         } else {
             interval
+        }
+    }
+
+    // The answer of a dispatch that takes this thread, with a number of threads before it.
+    fn taken(self, number: u32, interval: u32, before: u32) -> Answer
+        ensures { λ r. ⌜ r ≡ Answer.Run number (min (self .allotment) interval) before ⌝ }
+    {
+        let slice = self.slice(interval);
+        Answer::Run {
+            thread: number,
+            slice: slice,
+            before: before,
         }
     }
 
@@ -100,26 +119,27 @@ impl Thread {
         self.allotment - used as u32
     }
 
-    // The thread after a report, which finds the meter at `meter`.
+    // The thread after a report, which leaves the meter at `meter`.
     fn charged(mut self, meter: u64, thousandth: u32, reason: u64, used: u64) -> Self
         requires { ⌜ (thousandth ≤ 1000)
             × (used ≤ 1000000)
-            × (meter ≤ 10000001000000)
             × (self .ticks ≤ 10000001000000)
             × (self .since ≤ 10000001000000) ⌝ }
-        ensures { λ r. ⌜ ((s : Scheduler) → s .meter ≡ meter → s .settings .thousandth ≡ thousandth
+        ensures { λ r. ⌜ ((s : Scheduler) → s .meter + used ≡ meter → s .settings .thousandth ≡ thousandth
             → r ≡ cond (eqb reason 3) noThread (chargedThread s reason used self)) ⌝ }
     {
         if reason == EXIT {
             return Self::none();
         }
         let allotment = self.remaining(thousandth, reason, used);
+        let ticks = charge(self.ticks, used);
+        let since = charge(self.since, used);
         self.allotment = allotment;
-        self.ticks = self.ticks + used;
-        self.since = self.since + used;
+        self.ticks = ticks;
+        self.since = since;
         self.status = Self::RUNNABLE;
         if reason == YIELD {
-            self.anchor = meter + used;
+            self.anchor = meter;
             self.since = 0;
             return self;
         }
@@ -300,7 +320,7 @@ impl Scheduler {
         ensures { λ r. ⌜ replyOf r ≡ step (remove number) self ⌝ }
     {
         let ok = self.sound();
-        let at = (number % 64) as usize;
+        let at = (number % Self::THREADS as u64) as usize;
         let status = self.threads[at].status;
         let code = remove_code(ok, number, status, self.running);
         let mut answer = Answer::Refused(code);
@@ -325,7 +345,7 @@ impl Scheduler {
         ensures { λ r. ⌜ replyOf r ≡ step (wake number) self ⌝ }
     {
         let ok = self.sound();
-        let at = (number % 64) as usize;
+        let at = (number % Self::THREADS as u64) as usize;
         let thread = self.threads[at];
         let code = wake_code(ok, number, thread.status);
         let mut answer = Answer::Refused(code);
@@ -340,25 +360,7 @@ impl Scheduler {
         }
     }
 
-    // How many threads stand before the first runnable one: all of them where none is runnable.
-    fn passed(self) -> u32
-        requires { ⌜ sound self ≡ true ⌝ }
-        ensures { λ r. ⌜ r ≡ passedOver self ⌝ }
-    {
-        let count = self.count;
-        let mut i: u32 = 0;
-        while i < count {
-            let number = self.order[i as usize];
-            let status = self.threads[number as usize].status;
-            if status == Thread::RUNNABLE {
-                return i;
-            }
-            i += 1;
-        }
-        i
-    }
-
-    // Takes the first runnable thread of the list.
+    // Takes the first runnable thread of the list. `before` counts the entries passed, which are blocked.
     pub fn dispatch(mut self) -> Answered
         ensures { λ r. ⌜ replyOf r ≡ step dispatch self ⌝ }
     {
@@ -366,21 +368,24 @@ impl Scheduler {
         let code = dispatch_code(ok, self.running, self.meter);
         let mut answer = Answer::Refused(code);
         if code == 0 {
-            let before = self.passed();
-            if before == self.count {
-                answer = Answer::Idle(before);
-            } else {
+            let count = self.count;
+            let mut before: u32 = 0;
+            while before < count {
                 let number = self.order[before as usize];
                 let thread = self.threads[number as usize];
-                let slice = thread.slice(self.settings.interval);
-                let chosen = number as u32;
-                self.running = chosen;
-                answer = Answer::Run {
-                    thread: chosen,
-                    slice: slice,
-                    before: before,
-                };
+                let status = thread.status;
+                if status == Thread::RUNNABLE {
+                    let chosen = number as u32;
+                    let run = thread.taken(chosen, self.settings.interval, before);
+                    self.running = chosen;
+                    return Answered {
+                        answer: run,
+                        state: self,
+                    };
+                }
+                before += 1;
             }
+            answer = Answer::Idle(before);
         }
         Answered {
             answer: answer,
@@ -394,15 +399,15 @@ impl Scheduler {
     {
         let ok = self.sound();
         let running = self.running;
-        let at = (running % 64) as usize;
+        let at = (running % Self::THREADS) as usize;
         let thread = self.threads[at];
         let slice = thread.slice(self.settings.interval);
         let code = report_code(ok, running, reason, slice, used);
         let mut answer = Answer::Refused(code);
         if code == 0 {
-            let meter = self.meter;
             let count = self.count;
             let list = self.order;
+            let meter = charge(self.meter, used);
             let moves = thread.moves(reason, used);
             let charged = thread.charged(meter, self.settings.thousandth, reason, used);
             let moved = requeued(list, count as usize, running as u8, moves);
@@ -410,7 +415,7 @@ impl Scheduler {
             self.order = moved;
             self.count = count_after(count, reason);
             self.running = Self::THREADS;
-            self.meter = meter + used;
+            self.meter = meter;
             answer = Answer::Accepted;
         }
         Answered {

@@ -10,9 +10,7 @@ use Rattle.scheduler.proofs.Scheduler.remove.Tie as tie
 
 -- the number
 number : (c : tie.After-remove-code) → c .remove-code .result ≡ refusal (remove (c .before .before .args .number)) (c .before .before .args .t1)
-number c =
-    let a = c .before .before .args in
-    c .remove-code .ensures ∙ remove-number (a .t1) (a .number) (c .before .sound .result) (c .before .sound .ensures)
+number c = c .remove-code .ensures ∙ remove-number (c .before .before .args .t1) (c .before .before .args .number) (c .before .sound .result) (c .before .sound .ensures)
 
 -- no refusal
 module _ (c : tie.Then1) where
@@ -24,6 +22,12 @@ module _ (c : tie.Then1) where
 
 sound-requires : tie.Need-sound-requires
 sound-requires c κs = search needs
+
+cast-at : tie.Need-cast-at
+cast-at c = search needs
+
+rem-at : tie.Need-rem-at
+rem-at c = search needs
 
 mul-status : tie.Need-mul-status
 mul-status c = search needs
@@ -69,6 +73,8 @@ remove-spec =
     tie.close
     (tie.spec
     sound-requires
+    cast-at
+    rem-at
     mul-status
     element-copy-out-status
     remove-code-requires

@@ -52,17 +52,20 @@ slice-requires c κs = search needs
 report-code-requires : tie.Need-report-code-requires
 report-code-requires c κs = search needs
 
+charge-requires : tie.Need-charge-requires
+charge-requires c κs = let r = bounds (c .before) in (r .meter, r .short)
+
 moves-requires : tie.Need-moves-requires
 moves-requires c κs = search needs
 
 charged-requires : tie.Need-charged-requires
-charged-requires c κs = let r = bounds (c .before .before) in (r .thousandth, r .short, r .meter, r .ticks, r .since)
+charged-requires c κs = let r = bounds (c .before .before .before) in (r .thousandth, r .short, r .ticks, r .since)
 
 cast-requeued : tie.Need-cast-requeued
 cast-requeued c = search needs
 
 cast-requeued-2 : tie.Need-cast-requeued-2
-cast-requeued-2 c = let l = (bounds (c .before .before .before)) .list in omega arith
+cast-requeued-2 c = let l = (bounds (c .before .before .before .before)) .list in omega arith
 
 requeued-requires : tie.Need-requeued-requires
 requeued-requires c κs = search needs
@@ -74,20 +77,18 @@ element-set-from-charged : tie.Need-element-set-from-charged
 element-set-from-charged c = search needs
 
 count-after-requires : tie.Need-count-after-requires
-count-after-requires c κs = (bounds (c .before .before .before .before)) .list .some
-
-add-self : tie.Need-add-self
-add-self c = let r = bounds (c .before .before .before .before .before) in omega arith
+count-after-requires c κs = (bounds (c .before .before .before .before .before)) .list .some
 
 returns : tie.Need-returns
 returns c =
     let q = c .before in
     let g = q .before in
     let m = g .before in
-    let e = m .before .before in
+    let h = m .before in
+    let e = h .before .before in
     let k = e .before in
-    report-done (S k) (reason k) (used k) (clear e) (g .charged .result) (g .charged .ensures (S k) refl refl) (m .moves .result) (m .moves .ensures)
-    (q .requeued .result) (q .requeued .ensures) (c .count-after .result) (c .count-after .ensures)
+    report-done (S k) (reason k) (used k) (clear e) (g .charged .result) (g .charged .ensures (S k) (sym (h .charge .ensures)) refl) (m .moves .result) (m .moves .ensures)
+    (q .requeued .result) (q .requeued .ensures) (h .charge .result) (h .charge .ensures) (c .count-after .result) (c .count-after .ensures)
 
 returns-2 : tie.Need-returns-2
 returns-2 c = let k = c .before in refused (report (reason k) (used k)) (S k) (k .report-code .result) (number k) (c .if1 .left)
@@ -102,6 +103,7 @@ report-spec =
     element-copy-out-thread
     slice-requires
     report-code-requires
+    charge-requires
     moves-requires
     charged-requires
     cast-requeued
@@ -110,6 +112,5 @@ report-spec =
     mul-charged
     element-set-from-charged
     count-after-requires
-    add-self
     returns
     returns-2)

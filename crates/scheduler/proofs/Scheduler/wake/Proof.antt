@@ -17,6 +17,12 @@ sound-requires : tie.Need-sound-requires
 sound-requires c κs = search needs
 
 -- src/run.rt:77:22
+cast-at : tie.Need-cast-at
+cast-at c = search needs
+
+rem-at : tie.Need-rem-at
+rem-at c = search needs
+
 mul-thread : tie.Need-mul-thread
 mul-thread c = search needs
 
@@ -64,6 +70,8 @@ wake-spec =
     tie.close
     (tie.spec
     sound-requires
+    cast-at
+    rem-at
     mul-thread
     element-copy-out-thread
     wake-code-requires

@@ -1,6 +1,7 @@
 -- `dispatch_code` meets its contract: each return is a check of the chain, in its order.
 use borrow.Author.Tests.{le-leb, lt-leb, eq-eqb, ne-eqb, not-true, not-false}
 use mathlib.Core.Path.{refl}
+use native.Mathlib.Omega.{arith}
 use Rattle.scheduler.specs.Refusals.{firstOf}
 use Rattle.scheduler.proofs.run.dispatch_code.Statement.{statement}
 use Rattle.scheduler.proofs.run.dispatch_code.Tie as tie
@@ -13,7 +14,7 @@ returns-2 : tie.Need-returns-2
 unfolding firstOf
 returns-2 c =
     let a = c .before .before .args in
-    simp (not-false (a .ok) (c .before .if1 .left), ne-eqb (a .running) 64 (c .if2 .taken))
+    simp (not-false (a .ok) (c .before .if1 .left), ne-eqb (a .running) 64 (λ e. omega (arith, c .if2 .taken)))
 
 returns-3 : tie.Need-returns-3
 unfolding firstOf

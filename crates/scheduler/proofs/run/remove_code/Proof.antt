@@ -34,7 +34,7 @@ returns-4 c =
       not-false (a .ok) (c .before .before .before .if1 .left),
       le-ltb 63 (a .number) (omega arith),
       lt-ltb 0 (a .status) (omega (arith, c .before .if3 .left)),
-      eq-eqb (a .running) (a .number) (c .if4 .taken),
+      eq-eqb (a .running) (a .number) (omega arith),
     )
 
 returns-5 : tie.Need-returns-5

@@ -1,6 +1,7 @@
 -- `report_code` meets its contract: each return is a check of the chain, in its order.
 use borrow.Author.Tests.{lt-ltb, le-ltb, eq-eqb, ne-eqb, not-true, not-false}
 use mathlib.Core.Path.{refl}
+use native.Mathlib.Omega.{arith}
 use Rattle.scheduler.specs.Refusals.{firstOf}
 use Rattle.scheduler.proofs.run.report_code.Statement.{statement}
 use Rattle.scheduler.proofs.run.report_code.Tie as tie
@@ -11,7 +12,7 @@ returns c = simp (not-true (c .before .args .ok) (c .if1 .taken))
 
 returns-2 : tie.Need-returns-2
 unfolding firstOf
-returns-2 c = simp (not-false (c .before .before .args .ok) (c .before .if1 .left), c .if2 .taken)
+returns-2 c = simp (not-false (c .before .before .args .ok) (c .before .if1 .left), eq-eqb (c .before .before .args .running) 64 (omega arith))
 
 returns-3 : tie.Need-returns-3
 unfolding firstOf

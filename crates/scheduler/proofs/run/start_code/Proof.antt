@@ -25,7 +25,7 @@ returns-3 : tie.Need-returns-3
 unfolding startRefusal firstOf within
 returns-3 c =
     let a = c .before .before .before .args in
-    simp (le-leb 1 (a .thousandth) (c .before .before .if1 .left), le-leb (a .thousandth) 1000 (c .before .if2 .left), lt-leb 1 (a .interval) (c .if3 .taken))
+    simp (le-leb 1 (a .thousandth) (c .before .before .if1 .left), le-leb (a .thousandth) 1000 (c .before .if2 .left), lt-leb 1 (a .interval) (omega arith))
 
 cast-if4 : tie.Need-cast-if4
 cast-if4 c = search needs

@@ -32,7 +32,7 @@ returns-4 c =
       not-false (a .ok) (c .before .before .before .if1 .left),
       le-ltb 63 (a .number) (omega arith),
       lt-ltb 0 (a .status) (omega (arith, c .before .if3 .left)),
-      ne-eqb (a .status) 2 (c .if4 .taken),
+      ne-eqb (a .status) 2 (λ e. omega (arith, c .if4 .taken)),
     )
 
 returns-5 : tie.Need-returns-5
