@@ -1,0 +1,4 @@
+// The boundary to Rust and C: exported functions on numbers, structs of numbers and slices. Each is the call of the crate that it stands
+// for, with the paper's numbers for its answer.
+pub mod blocks;
+pub mod calls;
