@@ -2,3 +2,4 @@
 // for, with the paper's numbers for its answer.
 pub mod blocks;
 pub mod calls;
+pub mod roster;

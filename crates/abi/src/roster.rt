@@ -1,0 +1,58 @@
+// The accounts of the threads for hosts: a thread's lag and share, and the roster into a table that the host lends by pointer and length.
+use accounts::Entry;
+use accounts::Lag;
+use accounts::Share;
+use scheduler::Scheduler;
+ghost use mathlib.Core.Path.{_≡_};
+ghost use lib.ListN.{length};
+ghost use Rattle.accounts.specs.Figures.{lagReply, shareReply};
+ghost use Rattle.accounts.specs.Roster.{rosterRefusal, tableOf};
+ghost use Rattle.abi.specs.Figures.{lagFigure, shareFigure};
+
+// answer: 0, or the refusal, with a lag of 0.
+#[repr(C)]
+pub struct LagLine {
+    pub answer: u32,
+    pub lag: i64,
+}
+
+// answer: 0, or the refusal, with a share of 0.
+#[repr(C)]
+pub struct ShareLine {
+    pub answer: u32,
+    pub share: u32,
+}
+
+#[no_mangle]
+pub extern "C" fn mtr_lag(state: Scheduler, number: u64) -> LagLine
+    ensures { λ r. ⌜ lagFigure r ≡ lagReply state number ⌝ }
+{
+    match accounts::figures::lag(state, number) {
+        Lag::Value(v) => LagLine { answer: 0, lag: v },
+        Lag::Refused(k) => LagLine { answer: k, lag: 0 },
+    }
+}
+
+#[no_mangle]
+pub extern "C" fn mtr_share(state: Scheduler, number: u64) -> ShareLine
+    ensures { λ r. ⌜ shareFigure r ≡ shareReply state number ⌝ }
+{
+    match accounts::figures::share(state, number) {
+        Share::Value(v) => ShareLine {
+            answer: 0,
+            share: v,
+        },
+        Share::Refused(k) => ShareLine {
+            answer: k,
+            share: 0,
+        },
+    }
+}
+
+// The table is `table_len` records from `table` on.
+#[no_mangle]
+pub extern "C" fn mtr_roster(state: Scheduler, table: &mut [Entry]) -> u32
+    ensures { λ r. ⌜ (r ≡ rosterRefusal state (length (now (table .entry)))) × (now (table .exit) ≡ tableOf state (now (table .entry))) ⌝ }
+{
+    accounts::roster::roster(state, table)
+}

@@ -1,0 +1,96 @@
+-- The thread whose figures are asked for: what each test of the code says of it, and what is known once it is found or refused.
+use Prim.Native.Nat.{ℕ, suc, _<_, _≤_}
+use mathlib.Core.Path.{_≡_, refl, sym, ap, subst, _∙_}
+use mathlib.Core.Bool.{Bool, true, false, not, cond, _||_}
+use native.Mathlib.Omega.{arith}
+use borrow.Author.Tests.{lt-ltb, le-ltb, ltb-false, eqb-true, eq-eqb}
+use lib.Dec.{T, ltb, eqb}
+use Rattle.order.proofs.Bools.{by, holds}
+use Rattle.scheduler.specs.declared.Thread.{Thread}
+use Rattle.scheduler.specs.declared.Scheduler.{Scheduler}
+use Rattle.scheduler.specs.State.{threadAt, admittedAt}
+use Rattle.scheduler.specs.Sound.{sound}
+use Rattle.scheduler.specs.Refusals.{firstOf}
+use Rattle.accounts.specs.declared.figures.Account.{Account}
+use Rattle.accounts.specs.declared.figures.Account.the-variants.{Found, Refused}
+use Rattle.accounts.specs.Figures.{Figure, figure, reply, figureRefusal}
+use Rattle.accounts.specs.Inner.{Bounded, accountOf}
+use Rattle.accounts.proofs.Bounds.{bounded}
+
+-- a status that is not 0
+pub admitted-no : (s : Scheduler) (n : ℕ) → (threadAt s n) .status ≡ 0 → admittedAt s n ≡ false
+unfolding admittedAt
+admitted-no s n e = le-ltb 0 ((threadAt s n) .status) (omega arith)
+
+pub admitted-yes : (s : Scheduler) (n : ℕ) → ((threadAt s n) .status ≡ 0 → ⊥) → admittedAt s n ≡ true
+unfolding admittedAt
+admitted-yes s n e = lt-ltb 0 ((threadAt s n) .status) (omega (arith, e))
+
+module _ (s : Scheduler) (n : ℕ) where
+  pub not-sound : sound s ≡ false → Refused 16 ≡ accountOf s n
+  unfolding accountOf figureRefusal firstOf
+  not-sound e = rw e
+
+  pub too-high : sound s ≡ true → 63 < n → Refused 7 ≡ accountOf s n
+  unfolding accountOf figureRefusal firstOf
+  too-high e l = rw (e, lt-ltb 63 n l)
+
+  pub not-admitted : sound s ≡ true → n ≤ 63 → admittedAt s n ≡ false → Refused 7 ≡ accountOf s n
+  unfolding accountOf figureRefusal firstOf
+  not-admitted e l a = rw (e, le-ltb 63 n l, a)
+
+  pub admitted : sound s ≡ true → n ≤ 63 → admittedAt s n ≡ true → Found (threadAt s n) ≡ accountOf s n
+  unfolding accountOf figureRefusal firstOf
+  admitted e l a = rw (e, le-ltb 63 n l, a)
+
+  -- accepted
+  accepted : figureRefusal s n ≡ 0 → (sound s ≡ true) × (n < 64) × T (admittedAt s n)
+  unfolding figureRefusal firstOf
+  accepted e =
+      (by (λ b. _≡_ {A = ℕ} (cond (not b) 16 (cond (ltb 63 n || not (admittedAt s n)) 7 0)) 0 → sound s ≡ b → (sound s ≡ true) × (n < 64) × T (admittedAt s n)) (sound s)
+      (λ _ t ok.
+      (by (λ b. _≡_ {A = ℕ} (cond (b || not (admittedAt s n)) 7 0) 0 → ltb 63 n ≡ b → (sound s ≡ true) × (n < 64) × T (admittedAt s n)) (ltb 63 n)
+      (λ _ u _. never 6 u)
+      (λ _ u low.
+      (by (λ b. _≡_ {A = ℕ} (cond (not b) 7 0) 0 → admittedAt s n ≡ b → (sound s ≡ true) × (n < 64) × T (admittedAt s n)) (admittedAt s n)
+      (λ _ _ a. (ok, below (ltb-false 63 n low), holds (admittedAt s n) a))
+      (λ _ v _. never 6 v))
+      u refl))
+      t refl)
+      (λ _ t _. never 15 t))
+      e refl
+    where
+      never : {C : Type 0} (k : ℕ) → suc k ≡ 0 → C
+      never k e = absurd (omega arith)
+
+      below : n ≤ 63 → n < 64
+      below l = omega arith
+
+  module _ {A : Type 0} (none : A) (value : Thread → A) where
+    pub found : (t : Thread) → accountOf s n ≡ Found t → reply (figureRefusal s n) none (value (threadAt s n)) ≡ figure 0 (value t)
+    unfolding accountOf
+    found t e =
+        (by (λ b. cond b (Found (threadAt s n)) (Refused (figureRefusal s n)) ≡ Found t → cond b (figure 0 (value (threadAt s n))) (figure (figureRefusal s n) none) ≡ figure 0 (value t)) (eqb (figureRefusal s n) 0)
+        (λ _ u. let z : threadAt s n ≡ t = cc in ap (λ (x : Thread). figure 0 (value x)) z)
+        (λ _ u. absurd (let z : _≡_ {A = ℕ} 0 1 = cc in omega arith)))
+        e
+
+    pub refused : (k : ℕ) → accountOf s n ≡ Refused k → reply (figureRefusal s n) none (value (threadAt s n)) ≡ figure k none
+    unfolding accountOf
+    refused k e =
+        (by (λ b. cond b (Found (threadAt s n)) (Refused (figureRefusal s n)) ≡ Refused k → cond b (figure 0 (value (threadAt s n))) (figure (figureRefusal s n) none) ≡ figure k none) (eqb (figureRefusal s n) 0)
+        (λ _ u. absurd (let z : _≡_ {A = ℕ} 0 1 = cc in omega arith))
+        (λ _ u. let z : figureRefusal s n ≡ k = cc in ap (λ (x : ℕ). figure x none) z))
+        e
+
+  -- a thread that is found is within its bounds
+  pub found-bounded : (t : Thread) → accountOf s n ≡ Found t → Bounded (s .meter) t
+  unfolding accountOf
+  found-bounded t e =
+      (by (λ b. cond b (Found (threadAt s n)) (Refused (figureRefusal s n)) ≡ Found t → eqb (figureRefusal s n) 0 ≡ b → Bounded (s .meter) t) (eqb (figureRefusal s n) 0)
+      (λ _ u q.
+      let z : threadAt s n ≡ t = cc in
+      let a = accepted (eqb-true (figureRefusal s n) 0 q) in
+      subst (Bounded (s .meter)) z (bounded s n (a .0) (a .1) (a .2)))
+      (λ _ u _. absurd (let z : _≡_ {A = ℕ} 0 1 = cc in omega arith)))
+      e refl

@@ -1,0 +1,12 @@
+pub mod Bounds
+pub mod Signed
+pub mod Order
+pub mod Keys
+pub mod Insertion
+pub mod Accounts
+pub mod Long
+pub mod Rows
+pub mod Local
+pub mod Overlay
+pub mod Theorems
+pub mod Listing

@@ -1,0 +1,104 @@
+-- The figures of a record within its bounds. Each product stays far below 2^63, so a cast keeps its value; and the difference of two such
+-- numbers, made at 64 bits, is the exact one on both sides of zero.
+use mathlib.Core.Path.{_≡_, refl, sym, _∙_, ap, subst}
+use mathlib.Core.Bool.{Bool, true, false, cond}
+use Prim.Native.Nat.{ℕ, zero, suc, _+_, _-_, _*_, _/_, _^_, _<_, _≤_}
+use native.Mathlib.Nat.{mul-le-mul-right, div-le-of-le-mul}
+use native.Mathlib.Omega.{arith}
+use borrow.Author.Tests.{ltb-true, eq-eqb, ne-eqb}
+use lib.Dec.{ltb, eqb}
+use lib.IntN.{ℤ, pos, negsuc, subℕ, natAbs, _-ℤ_}
+use lib.Signed.{mag, ltZ}
+use mir.Syntax.{w64}
+use mir.Val.{SFits, toZ, ofZ}
+use mir.Facts.{toZ-ofZ}
+use Rattle.order.proofs.Bools.{by}
+use Rattle.scheduler.specs.declared.Thread.{Thread}
+use Rattle.scheduler.specs.Accounts.{lagOf, shareOf}
+use Rattle.accounts.specs.Inner.{Bounded}
+
+-- At 64 bits.
+
+-- a difference of two numbers lies no further from zero than the larger of them
+mag-sub : (a b k : ℕ) → a < k → b < k → mag (subℕ a b) < k
+mag-sub a b k ha hb = by (λ z. ltb a b ≡ z → mag (subℕ a b) < k) (ltb a b) (λ _ e. rw e (omega arith)) (λ _ e. rw e (omega arith)) refl
+
+pos-sub : (a b : ℕ) → pos a -ℤ pos b ≡ subℕ a b
+pos-sub a zero = by (λ z. ltb a zero ≡ z → pos (a + zero) ≡ subℕ a zero) (ltb a zero) (λ _ e. absurd (none a (ltb-true a zero e))) (λ _ e. rw e (ap pos (omega arith))) refl
+  where
+    none : (a : ℕ) → a < zero → ⊥
+    none a h = omega arith
+pos-sub a (suc b) = refl
+
+-- bits below half are the number itself
+small : {a : ℕ} → a < 2 ^ 63 → toZ w64 a ≡ pos a
+small {a} h = toZ-ofZ {w = w64} {z = pos a} (record { sfits = h })
+
+diff-is : (a b : ℕ) → a < 2 ^ 63 → b < 2 ^ 63 → toZ w64 a -ℤ toZ w64 b ≡ subℕ a b
+diff-is a b ha hb = (λ i. small ha i -ℤ small hb i) ∙ pos-sub a b
+
+pub diff-fits : (a b : ℕ) → a < 2 ^ 63 → b < 2 ^ 63 → SFits w64 (toZ w64 a -ℤ toZ w64 b)
+diff-fits a b ha hb = record { sfits = subst (λ (z : ℤ). mag z < 2 ^ 63) (sym (diff-is a b ha hb)) (mag-sub a b (2 ^ 63) ha hb) }
+
+-- the difference as it is stored
+pub diff-bits : (a b : ℕ) → a < 2 ^ 63 → b < 2 ^ 63 → toZ w64 (ofZ w64 (toZ w64 a -ℤ toZ w64 b)) ≡ subℕ a b
+diff-bits a b ha hb = toZ-ofZ (diff-fits a b ha hb) ∙ diff-is a b ha hb
+
+-- two signed numbers read from fields: the code compares their bits, and both fit
+pub told : {z : Bool} (x y : ℤ) → SFits w64 x → SFits w64 y → ltZ (toZ w64 (ofZ w64 x)) (toZ w64 (ofZ w64 y)) ≡ z → ltZ x y ≡ z
+told x y hx hy e = (λ i. ltZ (sym (toZ-ofZ hx) i) (sym (toZ-ofZ hy) i)) ∙ e
+
+abs-sub : (a b k : ℕ) → a ≤ k → b ≤ k → natAbs (subℕ a b) ≤ k
+abs-sub a b k ha hb = by (λ z. ltb a b ≡ z → natAbs (subℕ a b) ≤ k) (ltb a b) (λ _ e. rw e (omega (arith, ltb-true a b e))) (λ _ e. rw e (omega arith)) refl
+
+mag-abs : (z : ℤ) → natAbs z ≤ 1000 * 10000001000000 → mag z < 2 ^ 63
+mag-abs (pos n) h = omega arith
+mag-abs (negsuc n) h = omega arith
+
+-- Of a record.
+
+pub lag-blocked : (meter : ℕ) (t : Thread) → t .status ≡ 2 → lagOf meter t ≡ pos 0
+unfolding lagOf
+lag-blocked meter t e = rw (eq-eqb (t .status) 2 e)
+
+pub lag-runnable : (meter : ℕ) (t : Thread) → (t .status ≡ 2 → ⊥) → lagOf meter t ≡ subℕ (t .reservation * (meter - t .anchor)) (1000 * t .since)
+unfolding lagOf
+lag-runnable meter t e = rw (ne-eqb (t .status) 2 e)
+
+module _ (meter : ℕ) (t : Thread) (h : Bounded meter t) where
+  due-most : t .reservation * (meter - t .anchor) ≤ 1000 * 10000001000000
+  due-most = let le : t .reservation * (meter - t .anchor) ≤ 1000 * (meter - t .anchor) = mul-le-mul-right (meter - t .anchor) (h .small) in omega arith
+
+  had-most : 1000 * t .since ≤ 1000 * 10000001000000
+  had-most = omega arith
+
+  pub due-small : t .reservation * (meter - t .anchor) < 2 ^ 63
+  due-small = omega (arith, due-most)
+
+  pub had-small : 1000 * t .since < 2 ^ 63
+  had-small = omega (arith, had-most)
+
+  pub ticks-small : 1000 * t .ticks < 2 ^ 63
+  ticks-small = omega arith
+
+  -- |lag| is at most 1000 × (10^13 + 10^6)
+  pub lag-most : natAbs (lagOf meter t) ≤ 1000 * 10000001000000
+  unfolding lagOf
+  lag-most =
+      by (λ b. natAbs (cond b (pos 0) (subℕ (t .reservation * (meter - t .anchor)) (1000 * t .since))) ≤ 1000 * 10000001000000) (eqb (t .status) 2)
+      (λ _. omega arith)
+      (λ _. abs-sub (t .reservation * (meter - t .anchor)) (1000 * t .since) (1000 * 10000001000000) due-most had-most)
+
+  -- so its bits are read back as the lag
+  pub lag-fits : SFits w64 (lagOf meter t)
+  lag-fits = record { sfits = mag-abs (lagOf meter t) lag-most }
+
+  pub lag-bits : (r : ℤ) → r ≡ lagOf meter t → toZ w64 (ofZ w64 r) ≡ lagOf meter t
+  lag-bits r e = ap (λ (z : ℤ). toZ w64 (ofZ w64 z)) e ∙ toZ-ofZ lag-fits
+
+  pub quotient-most : 1000 * t .ticks / (meter - t .admission) ≤ 1000
+  quotient-most = div-le-of-le-mul (meter - t .admission) (omega (arith, h .used))
+
+  pub share-most : shareOf meter t ≤ 1000
+  unfolding shareOf
+  share-most = by (λ b. cond b 0 (1000 * t .ticks / (meter - t .admission)) ≤ 1000) (eqb (meter - t .admission) 0) (λ _. omega arith) (λ _. quotient-most)

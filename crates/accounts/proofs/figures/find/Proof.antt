@@ -1,0 +1,33 @@
+-- `accounts::figures::find` meets its contract: its tests are those of the refusal, in their order.
+use mathlib.Core.Path.{sym, _∙_}
+use borrow.Author.Tests.{not-true, not-false}
+use Rattle.accounts.proofs.Accounts.{not-sound, too-high, not-admitted, admitted, admitted-no, admitted-yes}
+use borrow.Author.Needs.{needs}
+use Rattle.accounts.proofs.figures.find.Statement.{statement}
+use Rattle.accounts.proofs.figures.find.Tie as tie
+
+sound-requires : tie.Need-sound-requires
+sound-requires c κs = search needs
+
+returns : tie.Need-returns
+returns c = not-sound _ _ (sym (c .before .sound .ensures) ∙ not-true _ (c .if1 .taken))
+
+returns-2 : tie.Need-returns-2
+returns-2 c = too-high _ _ (sym (c .before .before .sound .ensures) ∙ not-false _ (c .before .if1 .left)) (c .if2 .taken)
+
+mul-t : tie.Need-mul-t
+mul-t c = search needs
+
+element-copy-out-t : tie.Need-element-copy-out-t
+element-copy-out-t c = search needs
+
+returns-3 : tie.Need-returns-3
+returns-3 c = not-admitted _ _ (sym (c .before .before .before .before .before .sound .ensures) ∙ not-false _ (c .before .before .before .before .if1 .left)) (c .before .before .before .if2 .left) (admitted-no _ _ (c .if3 .taken))
+
+returns-4 : tie.Need-returns-4
+returns-4 c = admitted _ _ (sym (c .before .before .before .before .before .sound .ensures) ∙ not-false _ (c .before .before .before .before .if1 .left)) (c .before .before .before .if2 .left) (admitted-yes _ _ (c .if3 .left))
+
+pub find-spec : {M : Type 1} → statement M
+find-spec =
+    tie.close
+    (tie.spec sound-requires returns returns-2 mul-t element-copy-out-t returns-3 returns-4)

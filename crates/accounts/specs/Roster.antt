@@ -1,0 +1,39 @@
+-- "It fills a lent table of thread records": the records, the answer, and the table afterwards.
+use Prim.Native.Nat.{ℕ}
+use mathlib.Core.Bool.{not, cond}
+use mathlib.Core.List.{List, [], _∷_, _++_, map}
+use lib.Dec.{ltb, eqb}
+use lib.ListN.{length, drop}
+use Rattle.scheduler.specs.declared.Scheduler.{Scheduler}
+use Rattle.scheduler.specs.State.{threadAt, allotmentAt}
+use Rattle.scheduler.specs.Sound.{sound}
+use Rattle.scheduler.specs.Refusals.{firstOf, _⇒_}
+use Rattle.scheduler.specs.Accounts.{lagOf, shareOf}
+use Rattle.accounts.specs.declared.Entry.{Entry}
+use Rattle.accounts.specs.Order.{ordered, keysBelow}
+
+-- "state (0 runnable, 1 blocked, 2 running)", of the running thread's number, the thread's own and its status
+unfoldable pub stateOf : ℕ → ℕ → ℕ → ℕ
+stateOf running n status = cond (eqb running n) 2 (cond (eqb status 2) 1 0)
+
+-- "thread records: number, state .., allotment, lag, share"
+unfoldable pub entryOf : Scheduler → ℕ → Entry
+entryOf s n = record {
+  number = n;
+  state = stateOf (s .running) n ((threadAt s n) .status);
+  allotment = allotmentAt s n;
+  share = shareOf (s .meter) (threadAt s n);
+  lag = lagOf (s .meter) (threadAt s n);
+}
+
+-- "The roster lists every admitted thread" in its order
+unfoldable pub rosterOf : Scheduler → List Entry
+rosterOf s = map (λ k. entryOf s (k .number)) (ordered (keysBelow s 64))
+
+-- "Fill the roster: 17, the table is shorter than the number of threads", after 16
+unfoldable pub rosterRefusal : Scheduler → ℕ → ℕ
+rosterRefusal s len = firstOf ((not (sound s) ⇒ 16) ∷ (ltb len (length (rosterOf s)) ⇒ 17) ∷ [])
+
+-- "Records past the last are left unchanged"; a refusal leaves the whole table unchanged
+unfoldable pub tableOf : Scheduler → List Entry → List Entry
+tableOf s table = cond (eqb (rosterRefusal s (length table)) 0) (rosterOf s ++ drop (length (rosterOf s)) table) table

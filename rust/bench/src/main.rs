@@ -1,0 +1,32 @@
+//! Times of the static library beside those of the reference model.
+//!
+//!     bench               every row, as ratios (bench.sh)
+//!     bench one CALL N    each accepted case of a call N times (callgrind.sh)
+//!     bench calls         the names that `bench one` takes
+
+mod cases;
+mod states;
+mod times;
+
+use std::process::ExitCode;
+
+fn main() -> ExitCode {
+    let words: Vec<String> = std::env::args().skip(1).collect();
+    let words: Vec<&str> = words.iter().map(String::as_str).collect();
+    match words[..] {
+        [] => times::print(),
+        ["calls"] => println!("{}", cases::CALLS.join("\n")),
+        ["one", call, n] if cases::CALLS.contains(&call) => match n.parse() {
+            Ok(n) => cases::run(call, n),
+            Err(e) => {
+                eprintln!("bench: {n}: {e}");
+                return ExitCode::FAILURE;
+            }
+        },
+        _ => {
+            eprintln!("usage: bench | bench calls | bench one CALL N");
+            return ExitCode::FAILURE;
+        }
+    }
+    ExitCode::SUCCESS
+}

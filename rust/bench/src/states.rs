@@ -1,0 +1,104 @@
+//! The states that are measured, made by the model's calls.
+
+use model::blocks::{kind, Record, RECORDS};
+use model::rule::{Scheduler, BLOCK, METER_LIMIT, TICK};
+
+/// Reservation of each of n threads: all fit group 0 with 40 to spare, and half
+/// of them fit 480.
+pub fn reservation(n: u64) -> u64 {
+    (960 / n.max(1)).min(480)
+}
+
+/// Default settings and n runnable threads 0 to n − 1, listed in this order.
+/// With a deep tree all 16 groups are open, each below the one before, and
+/// every other thread is in the last.
+pub fn threads(n: u64, deep: bool) -> Scheduler {
+    let mut s = chain(if deep { 15 } else { 0 }, 480);
+    for number in 0..n {
+        let group = if deep && number % 2 == 1 { 15 } else { 0 };
+        assert_eq!(s.admit(number, group, reservation(n)), 0);
+    }
+    s
+}
+
+/// Groups 1 to `last`, each below the one before.
+fn chain(last: u64, ceiling: u64) -> Scheduler {
+    let mut s = Scheduler::default();
+    for g in 1..=last {
+        assert_eq!(s.open(g, g - 1, ceiling), 0);
+    }
+    s
+}
+
+/// n threads in group 0 above a chain of empty groups 1 to `last`.
+pub fn above_groups(n: u64, last: u64) -> Scheduler {
+    let mut s = chain(last, 20);
+    for number in 0..n {
+        assert_eq!(s.admit(number, 0, reservation(n)), 0);
+    }
+    s
+}
+
+/// The first `blocked` threads of the list block.
+pub fn block_first(s: &mut Scheduler, blocked: u64) {
+    for _ in 0..blocked {
+        s.dispatch();
+        assert_eq!(s.report(BLOCK, 0), 0);
+    }
+}
+
+/// n threads of which the one at the place in the list runs.
+pub fn running(n: u64, deep: bool, place: u64) -> Scheduler {
+    let mut s = threads(n, deep);
+    block_first(&mut s, place);
+    assert_eq!(s.dispatch().thread as u64, place);
+    for number in 0..place {
+        assert_eq!(s.wake(number), 0);
+    }
+    s
+}
+
+/// n threads that have run for a while, so that their lags differ.
+pub fn worn(n: u64, deep: bool) -> Scheduler {
+    let mut s = threads(n, deep);
+    for round in 0..3 * n {
+        let reply = s.dispatch();
+        let used = (reply.slice as u64).min(300 + 97 * (round % 11));
+        assert_eq!(s.report(if round % 3 == 0 { 2 } else { TICK }, used), 0);
+    }
+    s
+}
+
+/// n threads whose lags fall or rise with the number.
+pub fn sloped(n: u64, deep: bool, falling: bool) -> Scheduler {
+    let mut s = threads(n, deep);
+    s.meter = METER_LIMIT;
+    for k in 0..n {
+        let behind = if falling { n - k } else { k + 1 };
+        let t = &mut s.threads[k as usize];
+        t.anchor = s.meter - 1_000_000 * behind;
+        t.ticks = s.meter / 64;
+    }
+    s
+}
+
+/// A full block's records, of every kind.
+pub fn records() -> [Record; RECORDS] {
+    std::array::from_fn(|i| {
+        let i = i as u8;
+        let mut record = Record {
+            kind: 1 + i % 8,
+            ..Record::default()
+        };
+        match record.kind {
+            kind::OPEN | kind::ADMIT => {
+                (record.subject, record.group, record.amount) = (i, i / 2, 20 * i as u16);
+            }
+            kind::CLOSE | kind::REMOVE | kind::WAKE => record.subject = i,
+            kind::REPORT => (record.reason, record.ticks) = (i % 4, 20_000),
+            kind::START => (record.amount, record.ticks) = (100, 20_000),
+            _ => {}
+        }
+        record
+    })
+}

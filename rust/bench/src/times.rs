@@ -1,0 +1,317 @@
+//! Times of the library, of the model in place and of the model by value.
+//!
+//! A row is measured in rounds. In each round every side makes the same number
+//! of calls, one side after the other; a ratio is the median of the rounds'
+//! ratios, so that a disturbance of one round does not count.
+
+use std::hint::black_box;
+use std::time::{Duration, Instant};
+
+use binding::raw;
+use compare::{to_library, to_library_record};
+use model::accounts::Entry;
+use model::blocks::{decode, write_block, Record, BLOCK as BLOCK_BYTES, RECORDS};
+use model::by_value;
+use model::rule::{Scheduler, BLOCK, BLOCKED, TICK};
+
+use crate::states::{records, reservation, sloped, threads, worn};
+
+const ROUNDS: usize = 301;
+/// Least time of a round's slowest side.
+const ROUND: Duration = Duration::from_micros(300);
+
+/// One side of a row: makes its calls once.
+type Side<'a> = Box<dyn FnMut() + 'a>;
+
+struct Times {
+    /// Medians in nanoseconds per side.
+    nanos: Vec<f64>,
+    /// Median ratios of the first side to each other one.
+    ratios: Vec<f64>,
+}
+
+fn run(side: &mut Side, times: u32) -> Duration {
+    let begin = Instant::now();
+    for _ in 0..times {
+        side();
+    }
+    begin.elapsed()
+}
+
+fn median(mut values: Vec<f64>) -> f64 {
+    values.sort_by(f64::total_cmp);
+    values[values.len() / 2]
+}
+
+fn measure(mut sides: Vec<Side>) -> Times {
+    let mut times = 1;
+    while sides.iter_mut().map(|side| run(side, times)).max() < Some(ROUND) {
+        times *= 2;
+    }
+    let mut rounds: Vec<Vec<f64>> = vec![Vec::new(); sides.len()];
+    for round in 0..ROUNDS {
+        for k in 0..sides.len() {
+            // Each side comes first, second, .. in turn.
+            let k = (k + round) % sides.len();
+            let nanos = run(&mut sides[k], times).as_nanos() as f64;
+            rounds[k].push(nanos / times as f64);
+        }
+    }
+    let ratio = |side: &Vec<f64>| {
+        let pairs = rounds[0].iter().zip(side);
+        median(pairs.map(|(library, other)| library / other).collect())
+    };
+    Times {
+        ratios: rounds[1..].iter().map(ratio).collect(),
+        nanos: rounds.into_iter().map(median).collect(),
+    }
+}
+
+/// A ratio with its bar, where it has one.
+fn against(ratio: f64, bar: Option<f64>) -> String {
+    match bar {
+        Some(bar) => format!("{ratio:.2} (bar {bar:.1})"),
+        None => format!("{ratio:.2}"),
+    }
+}
+
+fn line(name: &str, threads: &str, sides: Vec<Side>, bars: [Option<f64>; 2]) {
+    let by_value = sides.len() > 2;
+    let times = measure(sides);
+    let nanos = |k: usize| format!("{:.0} ns", times.nanos[k]);
+    println!(
+        "{name:<26} {threads:>3} {:>9} {:>9} {:>9}   {:<15} {}",
+        nanos(0),
+        nanos(1),
+        if by_value { nanos(2) } else { String::new() },
+        against(times.ratios[0], bars[0]),
+        if by_value {
+            against(times.ratios[1], bars[1])
+        } else {
+            String::new()
+        }
+    );
+}
+
+/// The three sides of a row of calls, each on a state of its own.
+fn sides<'a>(
+    s: &Scheduler,
+    mut library: impl FnMut(&mut binding::Scheduler) + 'a,
+    mut in_place: impl FnMut(&mut Scheduler) + 'a,
+    mut value: impl FnMut(&mut Scheduler) + 'a,
+) -> Vec<Side<'a>> {
+    let (mut a, mut b, mut c) = (to_library(s), *s, *s);
+    vec![
+        Box::new(move || library(black_box(&mut a))),
+        Box::new(move || in_place(black_box(&mut b))),
+        Box::new(move || value(black_box(&mut c))),
+    ]
+}
+
+/// Each report uses the whole slice, so that the quantum ends and the thread
+/// moves to the rear (with 1 thread at every third).
+fn dispatch_report(n: u64) {
+    let sides = sides(
+        &threads(n, false),
+        |s| {
+            let reply = binding::dispatch(*s);
+            let used = reply.slice as u64;
+            *s = binding::report(reply.state, TICK, used).state;
+        },
+        |s| {
+            let reply = s.dispatch();
+            s.report(TICK, reply.slice as u64);
+        },
+        |s| {
+            let (reply, next) = by_value::dispatch(*s);
+            *s = by_value::report(next, TICK, reply.slice as u64).1;
+        },
+    );
+    let bars = if n == 64 {
+        [Some(1.6), Some(1.2)]
+    } else {
+        [None; 2]
+    };
+    line("dispatch + report", &n.to_string(), sides, bars);
+}
+
+/// The wake alone: before each the thread is blocked by a write to its status.
+fn wake(n: u64) {
+    let number = n - 1;
+    let k = number as usize;
+    let sides = sides(
+        &threads(n, false),
+        move |s| {
+            s.threads[k].status = BLOCKED;
+            *s = binding::wake(*s, number).state;
+        },
+        move |s| {
+            s.threads[k].status = BLOCKED;
+            s.wake(number);
+        },
+        move |s| {
+            s.threads[k].status = BLOCKED;
+            *s = by_value::wake(*s, number).1;
+        },
+    );
+    line("wake", &n.to_string(), sides, [None; 2]);
+}
+
+/// The first thread is dispatched, uses a tick, blocks and is woken.
+fn dispatch_block_wake(n: u64) {
+    let sides = sides(
+        &threads(n, false),
+        |s| {
+            let reply = binding::dispatch(*s);
+            let thread = reply.thread as u64;
+            let reply = binding::report(reply.state, BLOCK, 1);
+            *s = binding::wake(reply.state, thread).state;
+        },
+        |s| {
+            let thread = s.dispatch().thread as u64;
+            s.report(BLOCK, 1);
+            s.wake(thread);
+        },
+        |s| {
+            let (reply, next) = by_value::dispatch(*s);
+            let (_, next) = by_value::report(next, BLOCK, 1);
+            *s = by_value::wake(next, reply.thread as u64).1;
+        },
+    );
+    line("dispatch + block + wake", &n.to_string(), sides, [None; 2]);
+}
+
+/// The last of n threads is admitted and removed.
+fn admit_remove(n: u64) {
+    let number = n - 1;
+    let mut s = threads(n, false);
+    assert_eq!(s.remove(number), 0);
+    let amount = reservation(n);
+    let sides = sides(
+        &s,
+        move |s| {
+            let reply = binding::admit(*s, number, 0, amount);
+            *s = binding::remove(reply.state, number).state;
+        },
+        move |s| {
+            s.admit(number, 0, amount);
+            s.remove(number);
+        },
+        move |s| {
+            let (_, next) = by_value::admit(*s, number, 0, amount);
+            *s = by_value::remove(next, number).1;
+        },
+    );
+    line("admit + remove", &n.to_string(), sides, [None; 2]);
+}
+
+#[inline(never)]
+fn sound_by_value(s: Scheduler) -> bool {
+    s.sound()
+}
+
+fn soundness(n: u64) {
+    let sides = sides(
+        &threads(n, false),
+        |s| {
+            black_box(binding::sound(*s));
+        },
+        |s| {
+            black_box(s.sound());
+        },
+        |s| {
+            black_box(sound_by_value(*s));
+        },
+    );
+    line("soundness test", &n.to_string(), sides, [None; 2]);
+}
+
+fn roster(name: &str, s: Scheduler, bar: Option<f64>) {
+    let state = to_library(&s);
+    let mut table = [binding::Entry::default(); 64];
+    let mut own = [Entry::default(); 64];
+    let sides: Vec<Side> = vec![
+        Box::new(|| {
+            binding::roster(*black_box(&state), black_box(&mut table));
+        }),
+        Box::new(|| {
+            black_box(&s).roster(black_box(&mut own));
+        }),
+    ];
+    line(name, "64", sides, [bar, None]);
+}
+
+/// A block of 31 records. The library takes them as an array by value; the
+/// binding's function makes it from a slice.
+fn blocks() {
+    let records = records();
+    let list = records.map(|record| to_library_record(&record));
+    let array = binding::Records { records: list };
+    let mut area = [0u8; BLOCK_BYTES];
+    let mut own = area;
+    let sides: Vec<Side> = vec![
+        Box::new(|| {
+            let area = black_box(&mut area);
+            // SAFETY: pointer and length are those of the area.
+            unsafe {
+                raw::mtr_write_block(
+                    area.as_mut_ptr(),
+                    area.len(),
+                    7,
+                    *black_box(&array),
+                    RECORDS,
+                );
+            }
+        }),
+        Box::new(|| {
+            write_block(black_box(&mut own), 7, black_box(&records));
+        }),
+    ];
+    line("write a full block", "", sides, [Some(1.2), None]);
+
+    let sides: Vec<Side> = vec![
+        Box::new(|| {
+            binding::write_block(black_box(&mut area), 7, black_box(&list));
+        }),
+        Box::new(|| {
+            write_block(black_box(&mut own), 7, black_box(&records));
+        }),
+    ];
+    line("write it from a slice", "", sides, [None; 2]);
+
+    assert_eq!(write_block(&mut own, 7, &records), 0);
+    let block = own;
+    let sides: Vec<Side> = vec![
+        Box::new(|| {
+            black_box(&binding::read_block(black_box(&block), 7));
+        }),
+        Box::new(|| {
+            let mut found = [Record::default(); RECORDS];
+            let _ = black_box(decode(black_box(&block), 7, black_box(&mut found)));
+        }),
+    ];
+    line("read a full block", "", sides, [Some(1.2), None]);
+}
+
+pub fn print() {
+    println!("{:>80}", "library against");
+    println!(
+        "{:<26} {:>3} {:>9} {:>9} {:>9}   {:<15} by value",
+        "", "n", "library", "in place", "by value", "in place"
+    );
+    for row in [
+        dispatch_report,
+        wake,
+        dispatch_block_wake,
+        admit_remove,
+        soundness,
+    ] {
+        for n in [1, 8, 64] {
+            row(n);
+        }
+    }
+    roster("roster", worn(64, false), Some(1.5));
+    roster("roster, lags falling", sloped(64, false, true), None);
+    roster("roster, lags rising", sloped(64, false, false), None);
+    blocks();
+}
