@@ -6,11 +6,11 @@ ghost use Rattle.scheduler.specs.Rule.{step, startReply, mapped};
 ghost use Rattle.scheduler.specs.Answers.{lineOf, replyOf, mappedOf, subtreeOf};
 ghost use Rattle.scheduler.specs.Subtree.{subtreeReply};
 ghost use Rattle.abi.specs.Calls.{withState, replyOut, mappedOut, totalOut, flagOut};
-use scheduler::groups;
-use scheduler::priority;
 use scheduler::Answer;
 use scheduler::Answered;
 use scheduler::Scheduler;
+use scheduler::groups;
+use scheduler::priority;
 
 // answer: 0 accepted, or the refusal. thread (64: idle), slice and before are 0 except for an accepted dispatch.
 #[repr(C)]

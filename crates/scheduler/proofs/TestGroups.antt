@@ -2,22 +2,25 @@
 -- sums. A parent has a lower number than its child, so the sum of a group above i is whole and stays; what the sum of any group still
 -- lacks are the ceilings of its children up to i. At group 0 nothing is lacking, since group 0 is no child.
 use Prim.Native.Nat.{ℕ, _+_, _*_, _-_, _≤_, _<_}
-use mathlib.Core.Path.{_≡_, refl, sym, ap, subst, _∙_}
+use mathlib.Core.Path.{_≡_, refl, sym, ap, subst}
 use mathlib.Core.List.{List}
 use mathlib.Core.Bool.{Bool, true, false, not, cond, _&&_, _||_}
 use native.Mathlib.Omega.{arith}
 use lib.ListN.{length, getD, set}
 use lib.Dec.{T, ltb, leb, eqb, ltb→lt, lt→ltb, leb→le, le→leb, eqb→eq}
 use lib.Seq.{getD-set-other}
-use borrow.Author.Tests.{lt-ltb, le-ltb, le-leb, eq-eqb, ne-eqb, eqb-true, eqb-false}
+use mir.Syntax.{w32}
+use mir.Val.{Fits}
+use borrow.Author.Tests.{lt-ltb, le-leb, eq-eqb, ne-eqb, eqb-true, eqb-false}
 use Rattle.order.specs.Lists.{everyBelow, sumBelow}
-use Rattle.order.proofs.Bools.{by, cases, and-l, and-r, both, is, holds, implies, implied, or-true}
+use Rattle.order.proofs.Bools.{by, cases, and-l, and-r, both, is, holds, clash, implied, or-true}
 use Rattle.order.proofs.Sums.{everyBelow-at, everyBelow-of, sum-more}
+use Rattle.scheduler.specs.declared.Group.{Group}
 use Rattle.scheduler.specs.declared.Scheduler.{Scheduler}
-use Rattle.scheduler.specs.State.{groupAt, openAt}
-use Rattle.scheduler.specs.Sound.{within, childOf, reservedIn, ceilingsIn, load, groupOk, groupsOk}
-use Rattle.scheduler.specs.TestParts.{Sums}
-use Rattle.scheduler.proofs.TestLaws.{same, bump}
+use Rattle.scheduler.specs.State.{noGroup, groupAt, openAt}
+use Rattle.scheduler.specs.Sound.{within, childOf, ceilingsIn, load, groupOk, groupsOk}
+use Rattle.scheduler.specs.TestParts.{having, Sums, Small}
+use Rattle.scheduler.proofs.TestLaws.{same, bump, Sized, sized-more, sized-add}
 
 -- the rule of group g with u for its load
 unfoldable pub groupWith : Scheduler → ℕ → ℕ → Bool
@@ -29,19 +32,19 @@ groupWith s u g =
     && leb u ((groupAt s g) .ceiling)))
 
 -- what it says of an open group but group 0
-pub record Child (s : Scheduler) (u g : ℕ) : Type 0 where
-  pub low : 1 ≤ (groupAt s g) .ceiling
-  pub high : (groupAt s g) .ceiling ≤ 1000
-  pub below : (groupAt s g) .parent < g
-  pub home : (groupAt s ((groupAt s g) .parent)) .opened ≡ 1
-  pub room : u ≤ (groupAt s g) .ceiling
+pub record Child (groups : List Group) (u g : ℕ) : Type 0 where
+  pub low : 1 ≤ (getD groups g noGroup) .ceiling
+  pub high : (getD groups g noGroup) .ceiling ≤ 1000
+  pub below : (getD groups g noGroup) .parent < g
+  pub home : (getD groups ((getD groups g noGroup) .parent) noGroup) .opened ≡ 1
+  pub room : u ≤ (getD groups g noGroup) .ceiling
 
 module _ (s : Scheduler) (u g : ℕ) (h : g < 16) where
   is-open : (groupAt s g) .opened ≡ 1 → T (openAt s g)
   unfolding openAt
   is-open o = both (ltb g 16) (eqb ((groupAt s g) .opened) 1) (lt→ltb g 16 h) (holds (eqb ((groupAt s g) .opened) 1) (eq-eqb ((groupAt s g) .opened) 1 o))
 
-  child-passes : (groupAt s g) .opened ≡ 1 → Child s u g → T (groupWith s u g)
+  child-passes : (groupAt s g) .opened ≡ 1 → Child (s .groups) u g → T (groupWith s u g)
   unfolding groupWith within openAt
   child-passes o k =
       holds (groupWith s u g)
@@ -57,7 +60,7 @@ module _ (s : Scheduler) (u g : ℕ) (h : g < 16) where
         is (eqb g 0 || true) (or-true (eqb g 0)),
       ))
 
-  child-facts : 0 < g → (groupAt s g) .opened ≡ 1 → T (groupWith s u g) → Child s u g
+  child-facts : 0 < g → (groupAt s g) .opened ≡ 1 → T (groupWith s u g) → Child (s .groups) u g
   unfolding groupWith within openAt
   child-facts pos o t =
       let c : ℕ = (groupAt s g) .ceiling in
@@ -115,7 +118,7 @@ module _ (s : Scheduler) (i : ℕ) (used : List ℕ) (t : GroupsTo s i used) (h 
     fine = above (λ g. T (groupWith s (getD used g 0) g)) (t .fine) (closed-passes o (getD used i 0));
   }
 
-  pub groups-add : length used ≡ 16 → (groupAt s i) .opened ≡ 1 → Child s (getD used i 0) i
+  pub groups-add : length used ≡ 16 → (groupAt s i) .opened ≡ 1 → Child (s .groups) (getD used i 0) i
       → GroupsTo s (i - 1) (set used ((groupAt s i) .parent) (getD used ((groupAt s i) .parent) 0 + (groupAt s i) .ceiling))
   groups-add e o k =
       let p : ℕ = (groupAt s i) .parent in
@@ -142,7 +145,7 @@ module _ (s : Scheduler) (i : ℕ) (h : i < 16) where
   unfolding groupOk
   opened-most z = leb→le ((groupAt s i) .opened) 1 (and-l (leb ((groupAt s i) .opened) 1) _ z)
 
-  pub child-rule : 0 < i → (groupAt s i) .opened ≡ 1 → T (groupOk s i) → Child s (load s i) i
+  pub child-rule : 0 < i → (groupAt s i) .opened ≡ 1 → T (groupOk s i) → Child (s .groups) (load s i) i
   unfolding groupOk groupWith
   child-rule pos o z = child-facts s (load s i) i h pos o z
 
@@ -189,3 +192,107 @@ module _ (s : Scheduler) (used : List ℕ) (t : GroupsTo s 0 used) where
       let rule = everyBelow-at (groupOk s) 16 (and-r (o && e) (everyBelow (groupOk s) 16) z) 0 (omega arith) in
       both (o && e) r front (le→leb (getD used 0 0) 1000
       (omega (arith, whole 0 (omega arith), root-room (and-l o e front) rule, eqb→eq ((groupAt s 0) .ceiling) 1000 (and-r o e front)))))
+
+-- The loop's invariant: the sums are bounded, and `GroupsTo` holds of each state with these groups and reservations.
+pub record GroupsInv (groups : List Group) (reserved : List ℕ) (i : ℕ) (used : List ℕ) : Type 0 where
+  pub most : i ≤ 15
+  pub sized : Sized (79000 - 1000 * i) used
+  pub to : (s : Scheduler) → Sums (having s groups) reserved → GroupsTo (having s groups) i used
+
+-- what is to be shown of a result
+abbrev pub Answers : List Group → List ℕ → Bool → Type 0
+Answers groups reserved b = (s : Scheduler) → Sums (having s groups) reserved → b ≡ groupsOk (having s groups)
+
+-- the test of an open group but group 0, given its parent's flag
+abbrev pub childOk : Group → ℕ → ℕ → Bool
+childOk x home u = eqb (x .opened) 1 && eqb home 1 && leb 1 (x .ceiling) && leb (x .ceiling) 1000 && leb u (x .ceiling)
+
+pub inv-none : (groups : List Group) (reserved : List ℕ) → length reserved ≡ 16 → Small reserved → GroupsInv groups reserved 15 reserved
+inv-none groups reserved e h = record {
+  most = omega arith;
+  sized = record { size = e; small = h };
+  to = λ s q. groups-none (having s groups) reserved q;
+}
+
+module _ {groups : List Group} {reserved : List ℕ} {i : ℕ} {used : List ℕ} (k : GroupsInv groups reserved i used) (pos : 0 < i) where
+  pub low : i < 16
+  low = omega (arith, k .most)
+
+  pub inv-skip : (getD groups i noGroup) .opened ≡ 0 → GroupsInv groups reserved (i - 1) used
+  inv-skip o = record {
+    most = omega (arith, k .most);
+    sized = sized-more (79000 - 1000 * i) (79000 - 1000 * (i - 1)) used (k .sized) (omega arith);
+    to = λ s q. groups-skip (having s groups) i used (k .to s q) low pos o;
+  }
+
+  -- an open group's rule, against the sum so far
+  rule : (s : Scheduler) → Sums (having s groups) reserved → ((getD groups i noGroup) .opened ≡ 0 → ⊥) → T (groupOk (having s groups) i)
+      → Child groups (getD used i 0) i
+  rule s q a z =
+      let x = having s groups in
+      let o : (groupAt x i) .opened ≡ 1 = omega (arith, a, opened-most x i low z) in
+      let r = child-rule x i low pos o z in
+      record { low = r .low; high = r .high; below = r .below; home = r .home; room = omega (arith, r .room, k .to s q .sums i low) }
+
+  pub inv-high : ((getD groups i noGroup) .opened ≡ 0 → ⊥) → i ≤ (getD groups i noGroup) .parent → Answers groups reserved false
+  inv-high a h s q = groups-fail (having s groups) i low (λ z. omega (arith, rule s q a z .below))
+
+  pub inv-bad : ((getD groups i noGroup) .opened ≡ 0 → ⊥)
+      → childOk (getD groups i noGroup) ((getD groups ((getD groups i noGroup) .parent) noGroup) .opened) (getD used i 0) ≡ false
+      → Answers groups reserved false
+  inv-bad a e s q =
+      let x = getD groups i noGroup in
+      let home = (getD groups (x .parent) noGroup) .opened in
+      groups-fail (having s groups) i low (λ z.
+      let r = rule s q a z in
+      let o : x .opened ≡ 1 = omega (arith, a, opened-most (having s groups) i low z) in
+      clash (childOk x home (getD used i 0))
+      (rw (
+        o,
+        eq-eqb home 1 (r .home),
+        le-leb 1 (x .ceiling) (r .low),
+        le-leb (x .ceiling) 1000 (r .high),
+        le-leb (getD used i 0) (x .ceiling) (r .room),
+      )) e)
+
+  module _ (below : (getD groups i noGroup) .parent < i)
+      (e : childOk (getD groups i noGroup) ((getD groups ((getD groups i noGroup) .parent) noGroup) .opened) (getD used i 0) ≡ true) where
+    -- its facts, one by one
+    facts : ((getD groups i noGroup) .opened ≡ 1) × Child groups (getD used i 0) i
+    facts =
+        let x = getD groups i noGroup in
+        let home = (getD groups (x .parent) noGroup) .opened in
+        let o : Bool = eqb (x .opened) 1 in
+        let h : Bool = eqb home 1 in
+        let l : Bool = leb 1 (x .ceiling) in
+        let m : Bool = leb (x .ceiling) 1000 in
+        let r : Bool = leb (getD used i 0) (x .ceiling) in
+        let z4 = holds (o && h && l && m && r) e in
+        let z3 = and-l (o && h && l && m) r z4 in
+        let z2 = and-l (o && h && l) m z3 in
+        let z1 = and-l (o && h) l z2 in (
+          eqb→eq (x .opened) 1 (and-l o h z1),
+          record {
+            low = leb→le 1 (x .ceiling) (and-r (o && h) l z2);
+            high = leb→le (x .ceiling) 1000 (and-r (o && h && l) m z3);
+            below = below;
+            home = eqb→eq home 1 (and-r o h z1);
+            room = leb→le (getD used i 0) (x .ceiling) (and-r (o && h && l && m) r z4);
+          },
+        )
+
+    pub sum-fits : Fits w32 (getD used ((getD groups i noGroup) .parent) 0 + (getD groups i noGroup) .ceiling)
+    sum-fits = omega (arith, k .sized .small ((getD groups i noGroup) .parent) (omega (arith, low)), facts .1 .high)
+
+    pub inv-add : GroupsInv groups reserved (i - 1) (set used ((getD groups i noGroup) .parent) (getD used ((getD groups i noGroup) .parent) 0 + (getD groups i noGroup) .ceiling))
+    inv-add = record {
+      most = omega (arith, k .most);
+      sized = sized-add (79000 - 1000 * i) (79000 - 1000 * (i - 1)) used (k .sized) ((getD groups i noGroup) .parent) ((getD groups i noGroup) .ceiling) (omega (arith, low)) (omega (arith, k .most, facts .1 .high));
+      to = λ s q. groups-add (having s groups) i used (k .to s q) low pos (k .sized .size) (facts .0) (facts .1);
+    }
+
+pub inv-end : {groups : List Group} {reserved : List ℕ} {i : ℕ} {used : List ℕ} → GroupsInv groups reserved i used → i ≤ 0
+    → Answers groups reserved (eqb ((getD groups 0 noGroup) .opened) 1 && eqb ((getD groups 0 noGroup) .ceiling) 1000 && leb (getD used 0 0) 1000)
+inv-end {groups} {reserved} {i} {used} k h s q =
+    let e : i ≡ 0 = omega arith in
+    groups-end (having s groups) used (subst (λ (j : ℕ). GroupsTo (having s groups) j used) e (k .to s q))

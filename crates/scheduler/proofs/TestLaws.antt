@@ -1,5 +1,5 @@
--- Laws that the passes of the soundness test share: two tests that say the same are equal, a test of every number below a bound fails
--- where one fails, and a table of sums after one of them was raised.
+-- Laws that the passes of the soundness test share: two tests that say the same are equal, and a table of sums after one of them was
+-- raised.
 use Prim.Native.Nat.{ℕ, _+_, _≤_, _<_}
 use mathlib.Core.Path.{_≡_, refl, sym, subst, _∙_}
 use mathlib.Core.List.{List}
@@ -8,10 +8,10 @@ use native.Mathlib.Omega.{arith}
 use lib.ListN.{length, getD, set, replicate, length-set, getD-replicate}
 use lib.Seq.{getD-set-same, getD-set-other}
 use lib.Dec.{T, eqb}
+use mir.Syntax.{w64}
+use mir.Val.{Fits}
 use borrow.Author.Tests.{eqb-true, eqb-false}
-use Rattle.order.specs.Lists.{everyBelow}
 use Rattle.order.proofs.Bools.{cases}
-use Rattle.order.proofs.Sums.{everyBelow-at}
 
 pub same : (a b : Bool) → (T a → T b) → (T b → T a) → a ≡ b
 same true true f g = refl
@@ -28,8 +28,12 @@ pub or-none : (b : Bool) → (b || false) ≡ b
 or-none true = refl
 or-none false = refl
 
-pub every-fails : (p : ℕ → Bool) (k n : ℕ) → n < k → p n ≡ false → false ≡ everyBelow p k
-every-fails p k n h e = fails (everyBelow p k) (p n) (λ t. everyBelow-at p k t n h) e
+pub strict : {m n : ℕ} → m ≤ n → (m ≡ n → ⊥) → m < n
+strict h n = omega (arith, n)
+
+-- a counter below 64 can be raised
+pub next-fits : (i : ℕ) → i < 64 → Fits w64 (i + 1)
+next-fits i h = omega arith
 
 -- one of the sums is raised by v, and the others stay
 pub bump : (u : List ℕ) (g v k : ℕ) → g < length u → getD (set u g (getD u g 0 + v)) k 0 ≡ getD u k 0 + cond (eqb g k) v 0

@@ -6,12 +6,12 @@ use mathlib.Core.List.{List, [], _∷_, _++_}
 use mathlib.Core.Bool.{Bool, true, false, not, _&&_, _||_, false≢true}
 use native.Mathlib.Numerals.{add-one}
 use native.Mathlib.Omega.{arith}
-use lib.ListN.{length, getD, set, take, drop, replicate, length-set, length-replicate, getD-replicate}
+use lib.ListN.{length, getD, set, take, drop, replicate, length-set, getD-replicate}
 use lib.Seq.{take-suc, take-take, getD-take, split-at, length-take-le, getD-set-same, getD-set-other}
 use lib.Dec.{T, ltb, eqb, lt→ltb}
 use borrow.Author.Tests.{eqb-true, eqb-false, le-ltb, eq-eqb}
 use Rattle.order.specs.Lists.{member, distinct, everyOf}
-use Rattle.order.proofs.Bools.{by, cases, and-l, and-r, is, deny, holds, clash, or-true, or-right}
+use Rattle.order.proofs.Bools.{by, cases, and-l, and-r, is, deny, or-true, or-right}
 use Rattle.order.proofs.Lists.{everyOf-snoc, distinct-snoc, member-snoc}
 use Rattle.scheduler.specs.TestParts.{Marks, ListSeen}
 use Rattle.scheduler.proofs.TestLaws.{fails, or-none}

@@ -5,30 +5,43 @@ use mathlib.Core.Path.{_≡_, refl, sym, ap, subst, _∙_}
 use mathlib.Core.List.{List}
 use mathlib.Core.Bool.{Bool, true, false, not, cond, _&&_, _||_, false≢true}
 use native.Mathlib.Omega.{arith}
-use lib.ListN.{length, getD, set, replicate, length-set, getD-replicate}
+use lib.ListN.{length, getD, set, replicate, getD-replicate}
+use mir.Syntax.{w32}
+use mir.Val.{Fits}
 use lib.Dec.{T, ltb, leb, eqb, leb→le, ltb→lt, eqb→eq}
 use borrow.Author.Count.{below-none, below-more}
-use borrow.Author.Tests.{lt-ltb, le-leb, eq-eqb, ne-eqb}
+use borrow.Author.Tests.{lt-ltb, le-ltb, le-leb, ltb-false, eq-eqb, ne-eqb, not-true, not-false}
 use Rattle.order.specs.Lists.{member, everyBelow, sumBelow}
-use Rattle.order.proofs.Bools.{and-l, and-r, both, is, holds, implied}
+use Rattle.order.proofs.Bools.{and-l, and-r, is, holds, clash, or-false-l, or-false-r}
 use Rattle.order.proofs.Sums.{everyBelow-at, everyBelow-of, sum-more}
 use Rattle.scheduler.specs.declared.Thread.{Thread}
+use Rattle.scheduler.specs.declared.Group.{Group}
 use Rattle.scheduler.specs.declared.Scheduler.{Scheduler}
-use Rattle.scheduler.specs.State.{threadAt, groupAt, admittedAt, runnableAt, reservationAt, allotmentAt, openAt, quantum, listed}
+use Rattle.scheduler.specs.State.{noThread, noGroup, threadAt, groupAt, admittedAt, runnableAt, reservationAt, allotmentAt, openAt, listed}
 use Rattle.scheduler.specs.Sound.{within, threadIn, reservedIn, threadOk}
-use Rattle.scheduler.specs.TestParts.{Sums, Small, entryOk, ThreadsPass}
-use Rattle.scheduler.proofs.TestLaws.{same, bump, cond-le}
+use Rattle.scheduler.specs.TestParts.{given, quotaOk, accountOk, boundsOk, Marks, Small, entryOk, ThreadsPass}
+use Rattle.scheduler.proofs.TestLaws.{same, bump, Sized, sized-none, sized-more, sized-add}
 
--- the tests of an admitted thread's quota and account
-abbrev pub quotaOk : ℕ → Thread → Bool
-quotaOk m t = within 1 1000 (t .reservation) && within 1 (t .reservation * m) (t .allotment)
+-- what `boundsOk` says
+pub record Numbers (m meter : ℕ) (t : Thread) : Type 0 where
+  pub quota : quotaOk m t ≡ true
+  pub account : accountOk meter t ≡ true
+  pub low : t .group < 16
 
-abbrev pub accountOk : ℕ → Thread → Bool
-accountOk meter t =
-    leb (t .admission) (t .anchor)
-    && leb (t .anchor) meter
-    && leb (t .ticks) (meter - t .admission)
-    && leb (t .since) (meter - t .anchor)
+pub numbers-of : (m meter : ℕ) (t : Thread) → boundsOk m meter t ≡ true → Numbers m meter t
+numbers-of m meter t e =
+    let q : Bool = quotaOk m t in
+    let a : Bool = accountOk meter t in
+    let l : Bool = ltb (t .group) 16 in
+    let z = holds (q && (a && l)) e in
+    record {
+      quota = is q (and-l q (a && l) z);
+      account = is a (and-l a l (and-r q (a && l) z));
+      low = ltb→lt (t .group) 16 (and-r a l (and-r q (a && l) z));
+    }
+
+numbers-pass : (m meter : ℕ) (t : Thread) → Numbers m meter t → boundsOk m meter t ≡ true
+numbers-pass m meter t k = rw (k .quota, k .account, lt-ltb (t .group) 16 (k .low))
 
 pub quota-most : (m : ℕ) (t : Thread) → quotaOk m t ≡ true → t .reservation ≤ 1000
 unfolding within
@@ -53,9 +66,7 @@ and-all false = refl
 pub record Entry (s : Scheduler) (n : ℕ) : Type 0 where
   pub valid : (threadAt s n) .status ≤ 2
   pub placed : member n (listed s) ≡ true
-  pub quota : quotaOk (s .settings .thousandth) (threadAt s n) ≡ true
-  pub account : accountOk (s .meter) (threadAt s n) ≡ true
-  pub low : (threadAt s n) .group < 16
+  pub numbers : Numbers (s .settings .thousandth) (s .meter) (threadAt s n)
   pub home : (groupAt s ((threadAt s n) .group)) .opened ≡ 1
 
 module _ (s : Scheduler) (n : ℕ) where
@@ -91,10 +102,10 @@ module _ (s : Scheduler) (n : ℕ) where
           test,
           le-leb ((threadAt s n) .status) 2 (k .valid),
           k .placed,
-          k .quota,
-          lt-ltb ((threadAt s n) .group) 16 (k .low),
+          k .numbers .quota,
+          lt-ltb ((threadAt s n) .group) 16 (k .numbers .low),
           k .home,
-          k .account,
+          k .numbers .account,
         ))
 
     pub entry-facts : T (entryOk s n) → Entry s n
@@ -113,9 +124,11 @@ module _ (s : Scheduler) (n : ℕ) where
         record {
           valid = leb→le (t .status) 2 (and-l v (p && q && o && a) all);
           placed = is p (and-l p q (and-l (p && q) o front));
-          quota = is q (and-r p q (and-l (p && q) o front));
-          account = is a (and-r (p && q && o) a rest);
-          low = ltb→lt (t .group) 16 (and-l (ltb (t .group) 16) (eqb ((groupAt s (t .group)) .opened) 1) home);
+          numbers = record {
+            quota = is q (and-r p q (and-l (p && q) o front));
+            account = is a (and-r (p && q && o) a rest);
+            low = ltb→lt (t .group) 16 (and-l (ltb (t .group) 16) (eqb ((groupAt s (t .group)) .opened) 1) home);
+          };
           home = eqb→eq ((groupAt s (t .group)) .opened) 1 (and-r (ltb (t .group) 16) (eqb ((groupAt s (t .group)) .opened) 1) home);
         }
 
@@ -155,7 +168,7 @@ module _ (s : Scheduler) (i : ℕ) (used : List ℕ) (t : ThreadsTo s i used) wh
       t .sums g l,
       sum-more (part s g) i,
       own-part a g,
-      bump used ((threadAt s i) .group) ((threadAt s i) .reservation) g (omega (arith, k .low)),
+      bump used ((threadAt s i) .group) ((threadAt s i) .reservation) g (omega (arith, k .numbers .low)),
     );
   }
 
@@ -176,3 +189,112 @@ threads-end s used t small ok e = record {
   sums = λ z. t .sums;
   small = λ z. small;
 }
+
+-- The loop's invariant: the sums are bounded, and `ThreadsTo` holds of each state with these parts whose list `seen` marks.
+pub record ThreadsInv (threads : List Thread) (groups : List Group) (seen : List Bool) (m meter running i : ℕ) (used : List ℕ) : Type 0 where
+  pub most : i ≤ 64
+  pub sized : Sized (1000 * i) used
+  pub to : (s : Scheduler) → Marks seen (listed s) → ThreadsTo (given s threads groups m meter running) i used
+
+-- what is to be shown of a result
+abbrev pub Answers : List Thread → List Group → List Bool → ℕ → ℕ → ℕ → Bool → List ℕ → Type 0
+Answers threads groups seen m meter running ok used =
+    (s : Scheduler) → Marks seen (listed s) → ThreadsPass (given s threads groups m meter running) ok used
+
+pub inv-none : {threads : List Thread} {groups : List Group} {seen : List Bool} {m meter running : ℕ}
+    → ThreadsInv threads groups seen m meter running 0 (replicate 16 0)
+inv-none {threads} {groups} {seen} {m} {meter} {running} = record {
+  most = omega arith;
+  sized = sized-none;
+  to = λ s q. threads-none (given s threads groups m meter running);
+}
+
+module _ {threads : List Thread} {groups : List Group} {seen : List Bool} {m meter running i : ℕ} {used : List ℕ}
+    (k : ThreadsInv threads groups seen m meter running i used) (more : i < 64) where
+  pub inv-skip : (getD threads i noThread) .status ≡ 0 → getD seen i false ≡ false → ThreadsInv threads groups seen m meter running (i + 1) used
+  unfolding listed
+  inv-skip o e = record {
+    most = omega arith;
+    sized = sized-more (1000 * i) (1000 * (i + 1)) used (k .sized) (omega arith);
+    to = λ s q. threads-skip (given s threads groups m meter running) i used (k .to s q) o (sym (q i more) ∙ e);
+  }
+
+  -- a free number in the list
+  pub inv-free : (getD threads i noThread) .status ≡ 0 → getD seen i false ≡ true → {ok : Bool} {after : List ℕ} → ok ≡ false
+      → Answers threads groups seen m meter running ok after
+  unfolding listed
+  inv-free o e {ok} {after} f s q =
+      threads-fail (given s threads groups m meter running) i more (free-listed (given s threads groups m meter running) i o (sym (q i more) ∙ e)) ok after f
+
+  module _ (admitted : (getD threads i noThread) .status ≡ 0 → ⊥) where
+    -- an admitted thread that does not pass
+    fail : ((s : Scheduler) → Marks seen (listed s) → Entry (given s threads groups m meter running) i → ⊥) → {ok : Bool} {after : List ℕ} → ok ≡ false
+        → Answers threads groups seen m meter running ok after
+    fail g {ok} {after} f s q =
+        threads-fail (given s threads groups m meter running) i more (λ z. g s q (entry-facts (given s threads groups m meter running) i admitted z)) ok after f
+
+    pub inv-place : (ltb 2 ((getD threads i noThread) .status) || not (getD seen i false)) ≡ true → {ok : Bool} {after : List ℕ} → ok ≡ false
+        → Answers threads groups seen m meter running ok after
+    unfolding listed
+    inv-place e = fail (λ s q z.
+        let t = getD threads i noThread in
+        clash (ltb 2 (t .status) || not (getD seen i false)) e (rw (le-ltb 2 (t .status) (z .valid), q i more ∙ z .placed)))
+
+    pub inv-bounds : {b : Bool} → b ≡ boundsOk m meter (getD threads i noThread) → not b ≡ true → {ok : Bool} {after : List ℕ} → ok ≡ false
+        → Answers threads groups seen m meter running ok after
+    inv-bounds {b} e n = fail (λ s q z.
+        let t = getD threads i noThread in
+        clash b (e ∙ numbers-pass m meter t (z .numbers)) (not-true b n))
+
+    pub inv-home : ((getD groups ((getD threads i noThread) .group) noGroup) .opened ≡ 1 → ⊥) → {ok : Bool} {after : List ℕ} → ok ≡ false
+        → Answers threads groups seen m meter running ok after
+    inv-home n = fail (λ s q z. n (z .home))
+
+    -- one that passes
+    module _ {b : Bool} (place : (ltb 2 ((getD threads i noThread) .status) || not (getD seen i false)) ≡ false)
+        (bounds : b ≡ boundsOk m meter (getD threads i noThread)) (fit : b ≡ true)
+        (home : (getD groups ((getD threads i noThread) .group) noGroup) .opened ≡ 1) where
+      numbers : Numbers m meter (getD threads i noThread)
+      numbers = numbers-of m meter (getD threads i noThread) (sym bounds ∙ fit)
+
+      entry : (s : Scheduler) → Marks seen (listed s) → Entry (given s threads groups m meter running) i
+      unfolding listed
+      entry s q =
+          let t = getD threads i noThread in
+          record {
+            valid = ltb-false 2 (t .status) (or-false-l (ltb 2 (t .status)) (not (getD seen i false)) place);
+            placed = sym (q i more) ∙ not-false (getD seen i false) (or-false-r (ltb 2 (t .status)) (not (getD seen i false)) place);
+            numbers = numbers;
+            home = home;
+          }
+
+      least : (getD threads i noThread) .reservation ≤ 1000
+      least = quota-most m (getD threads i noThread) (numbers .quota)
+
+      pub sum-fits : Fits w32 (getD used ((getD threads i noThread) .group) 0 + (getD threads i noThread) .reservation)
+      sum-fits = omega (arith, k .sized .small ((getD threads i noThread) .group) (numbers .low), least)
+
+      pub inv-add : ThreadsInv threads groups seen m meter running (i + 1)
+          (set used ((getD threads i noThread) .group) (getD used ((getD threads i noThread) .group) 0 + (getD threads i noThread) .reservation))
+      inv-add = record {
+        most = omega arith;
+        sized = sized-add (1000 * i) (1000 * (i + 1)) used (k .sized) ((getD threads i noThread) .group) ((getD threads i noThread) .reservation) (numbers .low) (omega (arith, least));
+        to = λ s q. threads-add (given s threads groups m meter running) i used (k .to s q) (k .sized .size) admitted (entry s q);
+      }
+
+-- all threads pass
+module _ {threads : List Thread} {groups : List Group} {seen : List Bool} {m meter running i : ℕ} {used : List ℕ}
+    (k : ThreadsInv threads groups seen m meter running i used) (done : 64 ≤ i) where
+  ended : (ok : Bool) → ((s : Scheduler) → ok ≡ (eqb running 64 || runnableAt (given s threads groups m meter running) running))
+      → Answers threads groups seen m meter running ok used
+  ended ok e s q =
+      let z : i ≡ 64 = omega (arith, k .most) in
+      threads-end (given s threads groups m meter running) used (subst (λ (j : ℕ). ThreadsTo (given s threads groups m meter running) j used) z (k .to s q))
+      (λ g l. omega (arith, k .sized .small g l)) ok (e s)
+
+  pub inv-idle : running ≡ 64 → Answers threads groups seen m meter running true used
+  inv-idle e = ended true (λ s. sym (rw (eq-eqb running 64 e)))
+
+  pub inv-run : (running ≡ 64 → ⊥) → Answers threads groups seen m meter running (eqb ((getD threads running noThread) .status) 1) used
+  unfolding runnableAt
+  inv-run n = ended (eqb ((getD threads running noThread) .status) 1) (λ s. sym (rw (ne-eqb running 64 n)))

@@ -1,8 +1,8 @@
 -- The parts of the test together are `sound`. The list's test and the threads' tests meet in `entryOk`: every number in the list is
 -- that of an admitted thread just where no free number is marked. The running thread's test is shared out between the meter's part
 -- and the threads' part; a runnable thread is admitted.
-use Prim.Native.Nat.{ℕ, _≤_, _<_}
-use mathlib.Core.Path.{_≡_, refl, sym, subst}
+use Prim.Native.Nat.{_≤_, _<_}
+use mathlib.Core.Path.{_≡_, sym, subst}
 use mathlib.Core.List.{List}
 use mathlib.Core.Bool.{Bool, true, false, not, _&&_, _||_}
 use native.Mathlib.Omega.{arith}
@@ -10,7 +10,7 @@ use lib.ListN.{length, length-map}
 use mir.Val.{Val}
 use denote.Laws.{Is}
 use denote.Struct.Declared.{row}
-use lib.Dec.{T, ltb, leb, eqb, ltb→lt, lt→ltb, leb→le, le→leb, eqb→eq, not-T, T-not}
+use lib.Dec.{T, ltb, leb, eqb, ltb→lt, leb→le, le→leb, eqb→eq}
 use borrow.Author.Tests.{lt-ltb, eq-eqb, eqb-true, eqb-false}
 use Rattle.order.specs.Lists.{member, distinct, everyOf, everyBelow}
 use Rattle.order.proofs.Bools.{by, cases, and-l, and-r, both, is, holds, or-right}

@@ -2,13 +2,13 @@
 // The state is read in place; only the three tables are handed on, each to one function.
 ghost use mathlib.Core.Path.{_≡_};
 ghost use mathlib.Core.Bool.{false, _&&_, _||_};
-ghost use Prim.Native.Nat.{_*_, _-_, _≤_, _<_};
+ghost use Prim.Native.Nat.{_*_, _≤_, _<_};
 ghost use lib.ListN.{take};
 ghost use lib.Dec.{ltb, leb, eqb};
 ghost use Rattle.scheduler.specs.declared.Scheduler.{Scheduler};
 ghost use Rattle.scheduler.specs.State.{listed};
 ghost use Rattle.scheduler.specs.Sound.{within, settingsOk, groupsOk, sound};
-ghost use Rattle.scheduler.specs.TestParts.{given, having, Marks, ListSeen, Sums, Small, ThreadsPass, Tested};
+ghost use Rattle.scheduler.specs.TestParts.{given, having, accountOk, boundsOk, Marks, ListSeen, Sums, Small, ThreadsPass, Tested};
 use crate::Group;
 use crate::Scheduler;
 use crate::Settings;
@@ -68,7 +68,7 @@ fn quota_ok(reservation: u32, allotment: u32, m: u32) -> bool
 
 // A thread's account against the meter.
 fn account_ok(t: Thread, meter: u64) -> bool
-    ensures { λ r. ⌜ r ≡ (leb (t .admission) (t .anchor) && leb (t .anchor) meter && leb (t .ticks) (meter - t .admission) && leb (t .since) (meter - t .anchor)) ⌝ }
+    ensures { λ r. ⌜ r ≡ accountOk meter t ⌝ }
 {
     let admission = t.admission;
     let anchor = t.anchor;
@@ -81,6 +81,21 @@ fn account_ok(t: Thread, meter: u64) -> bool
     (t.ticks <= meter - admission) & (t.since <= meter - anchor)
 }
 
+// The numbers of an admitted thread.
+fn bounds_ok(t: Thread, m: u32, meter: u64) -> bool
+    requires { ⌜ m ≤ 1000 ⌝ }
+    ensures { λ r. ⌜ r ≡ boundsOk m meter t ⌝ }
+{
+    let reservation = t.reservation as u32;
+    if !quota_ok(reservation, t.allotment, m) {
+        return false;
+    }
+    let fair = account_ok(t, meter);
+    let g = t.group as u32;
+    fair & (g < Scheduler::GROUPS)
+}
+
+// The list's entries are thread numbers, each once.
 fn list_seen(order: [u8; 64], count: u32) -> Seen
     requires { ⌜ count ≤ 64 ⌝ }
     ensures { λ r. ⌜ ListSeen (take count order) (r .ok) (r .seen) ⌝ }
@@ -145,28 +160,18 @@ fn threads_pass(
             i += 1;
             continue;
         }
-        if 2 < status {
+        if (2 < status) | !seen[i] {
             return failed();
         }
-        if !seen[i] {
-            return failed();
-        }
-        let reservation = t.reservation as u32;
-        if !quota_ok(reservation, t.allotment, m) {
-            return failed();
-        }
-        if !account_ok(t, meter) {
+        if !bounds_ok(t, m, meter) {
             return failed();
         }
         let g = t.group as usize;
-        if GROUPS <= g {
-            return failed();
-        }
         let home = groups[g];
         if home.opened != 1 {
             return failed();
         }
-        used[g] = used[g] + reservation;
+        used[g] = used[g] + t.reservation as u32;
         i += 1;
     }
     if running == Scheduler::THREADS {
@@ -197,25 +202,18 @@ fn groups_ok(groups: [Group; 16], reserved: [u32; 16]) -> bool
             i -= 1;
             continue;
         }
-        if 1 < opened {
-            return false;
-        }
         let parent = x.parent as usize;
         if i <= parent {
             return false;
         }
         let home = groups[parent];
-        if home.opened != 1 {
-            return false;
-        }
         let ceiling = x.ceiling as u32;
-        if ceiling < 1 {
-            return false;
-        }
-        if Scheduler::WHOLE < ceiling {
-            return false;
-        }
-        if ceiling < used[i] {
+        let ok = (opened == 1)
+            & (home.opened == 1)
+            & (1 <= ceiling)
+            & (ceiling <= Scheduler::WHOLE)
+            & (used[i] <= ceiling);
+        if !ok {
             return false;
         }
         used[parent] = used[parent] + ceiling;

@@ -1,14 +1,11 @@
 -- `list_seen` meets its contract. The invariant is `ListTo`; the measure is what is left of the list. Assumes nothing.
-use Prim.Native.Nat.{ℕ, _≤_, _-_}
-use mathlib.Core.Path.{_≡_}
+use Prim.Native.Nat.{_≤_, _-_}
 use borrow.Author.Needs.{needs}
 use native.Mathlib.Omega.{arith}
 use lib.ListN.{length}
 use Rattle.scheduler.proofs.TestList.{ListTo, list-none, list-add, list-high, list-twice, list-end}
 use Rattle.scheduler.proofs.sound.list_seen.Statement.{statement}
 use Rattle.scheduler.proofs.sound.list_seen.Tie as tie
-use Rattle.scheduler.proofs.sound.list_seen.Reads as reads
-use Rattle.scheduler.proofs.sound.list_seen.Lts as lts
 
 abbrev Inv-loop : tie.InvT-loop
 Inv-loop count order n seen₀ i₀ seen i = ListTo order count i seen
@@ -20,56 +17,45 @@ abbrev μ-loop : tie.MeasureT-loop
 long : (c : tie.Start Inv-loop μ-loop) → c .args .count ≤ length (c .args .t1)
 long c = omega (arith, c .good .0 .1 .0 .1)
 
--- src/sound.rt:91:5
 loop-holds : tie.Need-loop-holds Inv-loop μ-loop
 loop-holds c = list-none (c .args .t1) (c .args .count)
 
--- src/sound.rt:92:17
 array-read-t : tie.Need-array-read-t Inv-loop μ-loop
 array-read-t c = omega arith
 
--- src/sound.rt:92:17
 cast-t : tie.Need-cast-t Inv-loop μ-loop
 cast-t c = search needs
 
--- src/sound.rt:94:13
 returns : tie.Need-returns Inv-loop μ-loop
 returns c =
     let l = c .before .before .loop in
     let s = c .before .before .before in
     list-high (s .args .t1) (s .args .count) (l .i) (l .seen) (l .inv) (c .before .loop-test .taken) (long s) (c .if1 .taken)
 
--- src/sound.rt:96:12
 array-read-if2 : tie.Need-array-read-if2 Inv-loop μ-loop
 array-read-if2 c = omega arith
 
--- src/sound.rt:97:13
 returns-2 : tie.Need-returns-2 Inv-loop μ-loop
 returns-2 c =
     let l = c .before .before .before .loop in
     let s = c .before .before .before .before in
     list-twice (s .args .t1) (s .args .count) (l .i) (l .seen) (l .inv) (c .before .before .loop-test .taken) (long s) (c .before .if1 .left) (c .if2 .taken)
 
--- src/sound.rt:99:9
 array-write-seen : tie.Need-array-write-seen Inv-loop μ-loop
 array-write-seen c = omega arith
 
--- src/sound.rt:100:9
 add-i : tie.Need-add-i Inv-loop μ-loop
 add-i c = omega arith
 
--- src/sound.rt:91:5
 loop-less : tie.Need-loop-less Inv-loop μ-loop
 loop-less c = omega arith
 
--- src/sound.rt:91:5
 loop-again : tie.Need-loop-again Inv-loop μ-loop
 loop-again c =
     let l = c .before .before .before .loop in
     let s = c .before .before .before .before in
     list-add (s .args .t1) (s .args .count) (l .i) (l .seen) (l .inv) (c .before .before .loop-test .taken) (long s) (c .before .if1 .left) (c .if2 .left)
 
--- src/sound.rt:84:1
 returns-3 : tie.Need-returns-3 Inv-loop μ-loop
 returns-3 c =
     let l = c .before .loop in
