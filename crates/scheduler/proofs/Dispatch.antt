@@ -1,9 +1,9 @@
 -- Dispatch: the entry at the number of passed threads is the chosen thread, and where all are passed no thread is runnable. The two
 -- answers of an accepted dispatch follow from what `accept` says of the chosen thread.
-use Prim.Native.Nat.{ℕ, min, _≤_, _<_}
-use mathlib.Core.Path.{_≡_, refl, sym, ap, subst, _∙_}
-use mathlib.Core.List.{List, [], _∷_}
-use mathlib.Core.Bool.{Bool, true, false, not, cond, _&&_}
+use Prim.Native.Nat.{ℕ, min, _<_}
+use mathlib.Core.Path.{_≡_, sym, ap, _∙_}
+use mathlib.Core.List.{[], _∷_}
+use mathlib.Core.Bool.{Bool, false, not, cond, _&&_}
 use native.Mathlib.Omega.{arith}
 use lib.ListN.{length, getD, take, List·getD-eq-default}
 use lib.Seq.{getD-take}

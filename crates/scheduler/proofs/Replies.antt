@@ -1,10 +1,10 @@
 -- From a number and a state to a reply. A call's code finds the refusal's number and, where that is 0, the new state; `refused` and
 -- `accepted` turn these into the reply of `step`. A thread number is looked up at its rest by 64: below 64 that is the number itself, and
 -- above it the call is refused whatever the entry holds.
-use Prim.Native.Nat.{ℕ, _-_, _%_, _≤_, _<_}
+use Prim.Native.Nat.{ℕ, _-_, _%_, _<_}
 use mathlib.Core.Path.{_≡_, refl, sym, ap, _∙_}
 use mathlib.Core.List.{List, [], _∷_, _++_, append-assoc}
-use mathlib.Core.Bool.{Bool, true, false, not, cond, _||_}
+use mathlib.Core.Bool.{Bool, false, not, cond, _||_}
 use native.Mathlib.Omega.{arith}
 use lib.ListN.{set, take, drop}
 use lib.Dec.{T, ltb, eqb}

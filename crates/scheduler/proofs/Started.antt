@@ -1,7 +1,6 @@
 -- Start: the bounds of accepted settings, and the two replies.
 use Prim.Native.Nat.{ℕ, _≤_}
-use mathlib.Core.Path.{_≡_, refl, sym, ap, _∙_}
-use mathlib.Core.Bool.{_&&_}
+use mathlib.Core.Path.{_≡_, sym, ap, _∙_}
 use lib.ListN.{set}
 use lib.Dec.{leb, leb→le}
 use borrow.Author.Tests.{ne-eqb}

@@ -1,6 +1,5 @@
 -- `remove` meets its contract: the number is the refusal's, and where it is 0 the thread is off the list and its entry is free.
-use Prim.Native.Nat.{ℕ, _≤_, _<_}
-use mathlib.Core.Path.{_≡_, refl, sym, _∙_}
+use mathlib.Core.Path.{_≡_, sym, _∙_}
 use native.Mathlib.Omega.{arith}
 use borrow.Author.Needs.{needs}
 use Rattle.scheduler.specs.Refusals.{remove, refusal}

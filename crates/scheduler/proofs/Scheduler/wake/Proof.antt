@@ -6,17 +6,10 @@ use Rattle.scheduler.specs.State.{withThread}
 use Rattle.scheduler.proofs.Replies.{refused, wake-number, wake-done}
 use Rattle.scheduler.proofs.Scheduler.wake.Statement.{statement}
 use Rattle.scheduler.proofs.Scheduler.wake.Tie as tie
-use Rattle.scheduler.proofs.Scheduler.wake.Reads as reads
-use Rattle.scheduler.proofs.Scheduler.wake.Lts as lts
-use Rattle.scheduler.proofs.Scheduler.sound.Reads as sound-reads
-use Rattle.scheduler.proofs.Thread.woken.Reads as woken-reads
-use Rattle.scheduler.proofs.run.wake_code.Reads as wake-code-reads
 
--- src/run.rt:75:13
 sound-requires : tie.Need-sound-requires
 sound-requires c κs = search needs
 
--- src/run.rt:77:22
 cast-at : tie.Need-cast-at
 cast-at c = search needs
 
@@ -26,23 +19,18 @@ rem-at c = search needs
 mul-thread : tie.Need-mul-thread
 mul-thread c = search needs
 
--- src/run.rt:77:22
 element-copy-out-thread : tie.Need-element-copy-out-thread
 element-copy-out-thread c = search needs
 
--- src/run.rt:78:13
 wake-code-requires : tie.Need-wake-code-requires
 wake-code-requires c κs = search needs
 
--- src/run.rt:81:17
 woken-requires : tie.Need-woken-requires
 woken-requires c κs = search needs
 
--- src/run.rt:82:13
 mul-woken : tie.Need-mul-woken
 mul-woken c = search needs
 
--- src/run.rt:82:13
 element-set-from-woken : tie.Need-element-set-from-woken
 element-set-from-woken c = search needs
 

@@ -1,6 +1,4 @@
 -- `woken` meets its contract.
-use mathlib.Core.Path.{_≡_, sym, ap}
-use Prim.Native.Nat.{ℕ}
 use Rattle.scheduler.specs.Effects.{wokenThread}
 use Rattle.scheduler.proofs.Thread.woken.Statement.{statement}
 use Rattle.scheduler.proofs.Thread.woken.Tie as tie

@@ -1,6 +1,5 @@
 -- `dispatch_code` meets its contract: each return is a check of the chain, in its order.
-use borrow.Author.Tests.{le-leb, lt-leb, eq-eqb, ne-eqb, not-true, not-false}
-use mathlib.Core.Path.{refl}
+use borrow.Author.Tests.{le-leb, lt-leb, ne-eqb, not-true, not-false}
 use native.Mathlib.Omega.{arith}
 use Rattle.scheduler.specs.Refusals.{firstOf}
 use Rattle.scheduler.proofs.run.dispatch_code.Statement.{statement}

@@ -1,6 +1,5 @@
 -- `report_code` meets its contract: each return is a check of the chain, in its order.
 use borrow.Author.Tests.{lt-ltb, le-ltb, eq-eqb, ne-eqb, not-true, not-false}
-use mathlib.Core.Path.{refl}
 use native.Mathlib.Omega.{arith}
 use Rattle.scheduler.specs.Refusals.{firstOf}
 use Rattle.scheduler.proofs.run.report_code.Statement.{statement}

@@ -1,7 +1,6 @@
 -- `start_code` meets its contract.
 use borrow.Author.Needs.{needs}
 use borrow.Author.Tests.{le-leb, lt-leb}
-use mathlib.Core.Path.{refl}
 use native.Mathlib.Omega.{arith}
 use Rattle.scheduler.specs.Sound.{within}
 use Rattle.scheduler.specs.Refusals.{firstOf, startRefusal}

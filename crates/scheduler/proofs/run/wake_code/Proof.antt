@@ -1,9 +1,7 @@
 -- `wake_code` meets its contract: each return is a check of the chain, in its order.
 use borrow.Author.Needs.{needs}
-use borrow.Author.Tests.{lt-ltb, le-ltb, eq-eqb, ne-eqb, not-true, not-false}
-use mathlib.Core.Path.{_≡_, refl}
+use borrow.Author.Tests.{lt-ltb, le-ltb, ne-eqb, not-true, not-false}
 use native.Mathlib.Omega.{arith}
-use lib.Dec.{ltb}
 use Rattle.scheduler.specs.Refusals.{firstOf}
 use Rattle.scheduler.proofs.run.wake_code.Statement.{statement}
 use Rattle.scheduler.proofs.run.wake_code.Tie as tie
