@@ -1,9 +1,9 @@
 -- The thread whose figures are asked for: what each test of the code says of it, and what is known once it is found or refused.
 use Prim.Native.Nat.{ℕ, suc, _<_, _≤_}
-use mathlib.Core.Path.{_≡_, refl, sym, ap, subst, _∙_}
-use mathlib.Core.Bool.{Bool, true, false, not, cond, _||_}
+use mathlib.Core.Path.{_≡_, refl, ap, subst}
+use mathlib.Core.Bool.{true, false, not, cond, _||_}
 use native.Mathlib.Omega.{arith}
-use borrow.Author.Tests.{lt-ltb, le-ltb, ltb-false, eqb-true, eq-eqb}
+use borrow.Author.Tests.{lt-ltb, le-ltb, ltb-false, eqb-true}
 use lib.Dec.{T, ltb, eqb}
 use Rattle.order.proofs.Bools.{by, holds}
 use Rattle.scheduler.specs.declared.Thread.{Thread}
@@ -11,9 +11,8 @@ use Rattle.scheduler.specs.declared.Scheduler.{Scheduler}
 use Rattle.scheduler.specs.State.{threadAt, admittedAt}
 use Rattle.scheduler.specs.Sound.{sound}
 use Rattle.scheduler.specs.Refusals.{firstOf}
-use Rattle.accounts.specs.declared.figures.Account.{Account}
 use Rattle.accounts.specs.declared.figures.Account.the-variants.{Found, Refused}
-use Rattle.accounts.specs.Figures.{Figure, figure, reply, figureRefusal}
+use Rattle.accounts.specs.Figures.{figure, reply, figureRefusal}
 use Rattle.accounts.specs.Inner.{Bounded, accountOf}
 use Rattle.accounts.proofs.Bounds.{bounded}
 

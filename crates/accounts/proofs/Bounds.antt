@@ -1,15 +1,15 @@
 -- What soundness says of the record of an admitted thread, as bounds. Each is one of the tests that soundness is made of.
 use Prim.Native.Nat.{ℕ, _-_, _≤_, _<_}
 use mathlib.Core.Path.{_≡_}
-use mathlib.Core.Bool.{Bool, true, not, _&&_, _||_}
+use mathlib.Core.Bool.{true}
 use native.Mathlib.Omega.{arith}
 use lib.Dec.{T, leb, leb→le}
-use Rattle.order.specs.Lists.{everyBelow, member}
+use Rattle.order.specs.Lists.{everyBelow}
 use Rattle.order.proofs.Bools.{and-l, and-r, holds, implied}
 use Rattle.order.proofs.Sums.{everyBelow-at}
 use Rattle.scheduler.specs.declared.Scheduler.{Scheduler}
 use Rattle.scheduler.specs.State.{threadAt, admittedAt, reservationAt}
-use Rattle.scheduler.specs.Sound.{within, sound, shapeOk, settingsOk, groupsOk, threadOk, listOk, runningOk}
+use Rattle.scheduler.specs.Sound.{within, sound, shapeOk, threadOk, listOk}
 use Rattle.accounts.specs.Inner.{Bounded}
 
 -- the tests for each thread, of the list, of the tables' lengths and of the meter

@@ -1,7 +1,7 @@
 -- The figures of a record within its bounds. Each product stays far below 2^63, so a cast keeps its value; and the difference of two such
 -- numbers, made at 64 bits, is the exact one on both sides of zero.
 use mathlib.Core.Path.{_≡_, refl, sym, _∙_, ap, subst}
-use mathlib.Core.Bool.{Bool, true, false, cond}
+use mathlib.Core.Bool.{Bool, cond}
 use Prim.Native.Nat.{ℕ, zero, suc, _+_, _-_, _*_, _/_, _^_, _<_, _≤_}
 use native.Mathlib.Nat.{mul-le-mul-right, div-le-of-le-mul}
 use native.Mathlib.Omega.{arith}

@@ -34,7 +34,7 @@ pub(crate) fn share_of(t: Thread, meter: u64) -> u32
 }
 
 // An admitted thread of a sound state, or the refusal.
-pub enum Account {
+enum Account {
     Found(Thread),
     Refused(u32),
 }

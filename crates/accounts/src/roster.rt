@@ -9,11 +9,19 @@ ghost use lib.ListN.{length};
 ghost use Rattle.accounts.specs.Roster.{stateOf, rosterRefusal, tableOf};
 ghost use Rattle.accounts.specs.Inner.{Sorted, Filled, Planned};
 
+const NONE: Entry = Entry {
+    number: 0,
+    state: 0,
+    allotment: 0,
+    share: 0,
+    lag: 0,
+};
+
 // The answer, and the first `count` of the records to store: none where the roster refuses.
-pub struct Plan {
-    pub answer: u32,
-    pub rows: [Entry; 64],
-    pub count: usize,
+struct Plan {
+    answer: u32,
+    rows: [Entry; 64],
+    count: usize,
 }
 
 // 0 runnable, 1 blocked, 2 running.
@@ -34,17 +42,10 @@ fn filled(s: Scheduler, k: Keys) -> Plan
     requires { ⌜ Sorted s k ⌝ }
     ensures { λ r. ⌜ Filled s r ⌝ }
 {
-    let none = Entry {
-        number: 0,
-        state: 0,
-        allotment: 0,
-        share: 0,
-        lag: 0,
-    };
     let meter = s.meter;
     let running = s.running;
     let count = k.count;
-    let mut rows = [none; 64];
+    let mut rows = [NONE; 64];
     let mut i: usize = 0;
     while i < count {
         let x = k.keys[i];
@@ -69,16 +70,9 @@ fn filled(s: Scheduler, k: Keys) -> Plan
 fn refused(answer: u32) -> Plan
     ensures { λ r. ⌜ (r .answer ≡ answer) × (r .count ≡ 0) ⌝ }
 {
-    let none = Entry {
-        number: 0,
-        state: 0,
-        allotment: 0,
-        share: 0,
-        lag: 0,
-    };
     Plan {
         answer: answer,
-        rows: [none; 64],
+        rows: [NONE; 64],
         count: 0,
     }
 }

@@ -1,0 +1,4 @@
+pub mod Replay
+pub mod Run
+pub mod Steps
+pub mod Examples

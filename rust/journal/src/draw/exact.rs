@@ -1,0 +1,214 @@
+//! Every span as a shape of its own, for journals with few of them.
+
+use std::fmt::Write;
+
+use crate::codec::Record;
+use crate::engine::THREADS;
+use crate::words;
+
+use super::layout::{Lane, Layout, Panel};
+use super::scale::duration;
+use super::svg::{escape, C};
+use super::track::{At, Life, Sink, Span, What};
+
+/// Narrowest run that is drawn.
+const NARROW: f64 = 0.8;
+
+/// Shapes of one thread.
+#[derive(Clone, Debug, Default)]
+pub struct Shapes {
+    pub runs: String,
+    pub waits: String,
+    pub blocked: String,
+    pub wakes: String,
+    pub lag: String,
+    pub bound: String,
+    /// End of the lag's line so far.
+    last: Option<(At, i64)>,
+}
+
+/// Refusals at the same pixel.
+#[derive(Clone, Debug)]
+pub struct Refused {
+    pub x: f64,
+    pub answers: Vec<u32>,
+    pub title: String,
+}
+
+pub struct Exact<'a> {
+    layout: &'a Layout,
+    lanes: [Option<Lane>; THREADS],
+    panels: [Option<Panel>; THREADS],
+    pub shapes: Vec<Shapes>,
+    pub refused: Vec<Refused>,
+    pub starts: Vec<f64>,
+    /// Whether wakes have room for a triangle each.
+    roomy: bool,
+    /// Whether runs say what they are when pointed at.
+    titles: bool,
+}
+
+impl<'a> Exact<'a> {
+    pub fn new(layout: &'a Layout, roomy: bool, titles: bool) -> Exact<'a> {
+        let mut lanes = [None; THREADS];
+        let mut panels = [None; THREADS];
+        for lane in &layout.lanes {
+            lanes[lane.thread as usize] = Some(*lane);
+        }
+        for panel in &layout.panels {
+            panels[panel.thread as usize] = Some(*panel);
+        }
+        Exact {
+            layout,
+            lanes,
+            panels,
+            shapes: vec![Shapes::default(); THREADS],
+            refused: Vec::new(),
+            starts: Vec::new(),
+            roomy,
+            titles,
+        }
+    }
+
+    fn run(&mut self, lane: Lane, x0: f64, x1: f64, title: impl FnOnce() -> String) {
+        let runs = &mut self.shapes[lane.thread as usize].runs;
+        let w = (x1 - x0).max(NARROW);
+        if self.titles {
+            let _ = writeln!(
+                runs,
+                "<rect class=\"run\" x=\"{}\" y=\"{}\" width=\"{}\" height=\"{}\"><title>{}</title></rect>",
+                C(x0),
+                C(lane.top),
+                C(w),
+                C(lane.bar),
+                escape(&title())
+            );
+        } else {
+            let _ = write!(
+                runs,
+                "M{} {}h{}v{}h{}z",
+                C(x0),
+                C(lane.top),
+                C(w),
+                C(lane.bar),
+                C(-w)
+            );
+        }
+    }
+}
+
+impl Sink for Exact<'_> {
+    fn span(&mut self, span: &Span) {
+        let n = span.thread as usize;
+        let (Some(lane), Some(panel)) = (self.lanes[n], self.panels[n]) else {
+            return;
+        };
+        let (x0, x1) = (self.layout.x(span.from), self.layout.x(span.end()));
+        let middle = lane.top + lane.bar / 2.0;
+        match span.what {
+            What::Run => self.run(lane, x0, x1, || {
+                format!(
+                    "thread {n} has the core from {} to {}, from record {}",
+                    duration(span.from.time as f64),
+                    duration(span.to as f64),
+                    span.record
+                )
+            }),
+            What::Wait => {
+                let waits = &mut self.shapes[n].waits;
+                let _ = write!(waits, "M{} {}H{}", C(x0), C(middle), C(x1));
+            }
+            What::Blocked => {
+                let h = (lane.bar * 0.5).round();
+                let blocked = &mut self.shapes[n].blocked;
+                let (y, w) = (middle - h / 2.0, x1 - x0);
+                let _ = write!(blocked, "M{} {}h{}v{}h{}z", C(x0), C(y), C(w), C(h), C(-w));
+            }
+        }
+        let shapes = &mut self.shapes[n];
+        let (y0, y1) = (panel.y(span.lag as f64), panel.y(span.last_lag() as f64));
+        match shapes.last {
+            Some((at, lag)) if at == span.from => {
+                if lag != span.lag {
+                    let _ = write!(shapes.lag, "V{}", C(y0));
+                }
+            }
+            _ => {
+                let _ = write!(shapes.lag, "M{} {}", C(x0), C(y0));
+            }
+        }
+        let _ = write!(shapes.lag, "L{} {}", C(x1), C(y1));
+        shapes.last = Some((span.end(), span.last_lag()));
+    }
+
+    fn empty_run(&mut self, thread: u8, at: At, record: u64) {
+        let Some(lane) = self.lanes[thread as usize] else {
+            return;
+        };
+        let x = self.layout.x(at);
+        self.run(lane, x - NARROW / 2.0, x, || {
+            format!(
+                "thread {thread} has the core at {} without a tick, from record {record}",
+                duration(at.time as f64)
+            )
+        });
+    }
+
+    fn life(&mut self, life: &Life) {
+        let n = life.thread as usize;
+        // A new life does not go on with the line of the last.
+        self.shapes[n].last = None;
+        let Some(panel) = self.panels[n] else { return };
+        let to = At {
+            time: life.to,
+            ..life.from
+        };
+        let _ = write!(
+            self.shapes[n].bound,
+            "M{} {}H{}",
+            C(self.layout.x(life.from)),
+            C(panel.y(life.bound as f64)),
+            C(self.layout.x(to))
+        );
+    }
+
+    fn wake(&mut self, thread: u8, at: At, _: u64) {
+        let Some(lane) = self.lanes[thread as usize] else {
+            return;
+        };
+        let (x, y) = (self.layout.x(at), lane.top + lane.bar + 1.5);
+        let wakes = &mut self.shapes[thread as usize].wakes;
+        let _ = if self.roomy {
+            write!(wakes, "M{} {}l4 7h-8z", C(x), C(y))
+        } else {
+            write!(wakes, "M{} {}h1v5h-1z", C(x - 0.5), C(y))
+        };
+    }
+
+    fn refusal(&mut self, at: At, number: u64, record: &Record, answer: u32) {
+        let x = self.layout.x(at);
+        let title = format!(
+            "record {number} refused: {answer}, {}",
+            words::refusal(record.kind, answer)
+        );
+        match self.refused.last_mut() {
+            Some(last) if x - last.x < 1.0 => {
+                if !last.answers.contains(&answer) {
+                    last.answers.push(answer);
+                }
+                if last.title.len() < 1000 {
+                    let _ = write!(last.title, "\n{title}");
+                }
+            }
+            _ => self.refused.push(Refused {
+                x,
+                answers: vec![answer],
+                title,
+            }),
+        }
+    }
+
+    fn start(&mut self, at: At, _: (u64, u64)) {
+        self.starts.push(self.layout.x(at));
+    }
+}

@@ -1,0 +1,122 @@
+//! Writing of SVG.
+
+use std::fmt::Write;
+
+/// Text as it may stand in an element or an attribute. Characters that XML
+/// does not have are replaced.
+pub fn escape(text: &str) -> String {
+    let mut out = String::with_capacity(text.len());
+    for c in text.chars() {
+        match c {
+            '&' => out.push_str("&amp;"),
+            '<' => out.push_str("&lt;"),
+            '>' => out.push_str("&gt;"),
+            '"' => out.push_str("&quot;"),
+            c if (c.is_control() && c != '\t') || matches!(c, '\u{fffe}' | '\u{ffff}') => {
+                out.push('\u{fffd}')
+            }
+            c => out.push(c),
+        }
+    }
+    out
+}
+
+/// A coordinate with at most two decimals.
+pub struct C(pub f64);
+
+impl std::fmt::Display for C {
+    fn fmt(&self, f: &mut std::fmt::Formatter) -> std::fmt::Result {
+        let hundredths = (self.0 * 100.0).round() as i64;
+        let (sign, size) = if hundredths < 0 {
+            ("-", -hundredths)
+        } else {
+            ("", hundredths)
+        };
+        match (size / 100, size % 100) {
+            (whole, 0) => write!(f, "{sign}{whole}"),
+            (whole, part) if part % 10 == 0 => write!(f, "{sign}{whole}.{}", part / 10),
+            (whole, part) => write!(f, "{sign}{whole}.{part:02}"),
+        }
+    }
+}
+
+/// Rough width of a text in a sans-serif font.
+pub fn width(text: &str, size: f64) -> f64 {
+    text.chars().count() as f64 * size * 0.58
+}
+
+#[derive(Clone, Copy, PartialEq, Eq)]
+pub enum Anchor {
+    Start,
+    Middle,
+    End,
+}
+
+/// A picture being written.
+#[derive(Default)]
+pub struct Svg {
+    pub out: String,
+}
+
+impl Svg {
+    /// Appends formatted markup.
+    pub fn put(&mut self, markup: std::fmt::Arguments) {
+        // Writing to a string does not fail.
+        let _ = self.out.write_fmt(markup);
+        self.out.push('\n');
+    }
+
+    /// A line of text in one of the style's classes.
+    pub fn text(&mut self, x: f64, y: f64, anchor: Anchor, class: &str, text: &str) {
+        let anchor = match anchor {
+            Anchor::Start => "",
+            Anchor::Middle => " text-anchor=\"middle\"",
+            Anchor::End => " text-anchor=\"end\"",
+        };
+        self.put(format_args!(
+            "<text x=\"{}\" y=\"{}\"{anchor} class=\"{class}\">{}</text>",
+            C(x),
+            C(y),
+            escape(text)
+        ));
+    }
+
+    /// A path in one of the style's classes, unless it is empty.
+    pub fn path(&mut self, class: &str, d: &str) {
+        if !d.is_empty() {
+            self.put(format_args!("<path class=\"{class}\" d=\"{d}\"/>"));
+        }
+    }
+
+    pub fn rect(&mut self, class: &str, x: f64, y: f64, w: f64, h: f64) {
+        self.put(format_args!(
+            "<rect class=\"{class}\" x=\"{}\" y=\"{}\" width=\"{}\" height=\"{}\"/>",
+            C(x),
+            C(y),
+            C(w.max(0.0)),
+            C(h.max(0.0))
+        ));
+    }
+}
+
+#[cfg(test)]
+mod tests {
+    use super::*;
+
+    #[test]
+    fn coordinates_are_short() {
+        let texts: Vec<String> = [1.0, 1.5, -0.25, 0.004, -0.004, 12.345]
+            .iter()
+            .map(|&v| C(v).to_string())
+            .collect();
+        assert_eq!(texts, ["1", "1.5", "-0.25", "0", "0", "12.35"]);
+    }
+
+    #[test]
+    fn text_is_escaped() {
+        assert_eq!(
+            escape("a<b & \"c\"\u{1}"),
+            "a&lt;b &amp; &quot;c&quot;\u{fffd}"
+        );
+    }
+}

@@ -1,0 +1,211 @@
+//! What falls into each pixel column, for journals with many spans: the part
+//! of the column's time that a thread had the core or was blocked, how often
+//! it was woken, and between which values its lag was.
+
+use std::fmt::Write;
+
+use crate::codec::Record;
+use crate::engine::THREADS;
+
+use super::layout::{Layout, Panel, COLUMNS, LEFT};
+use super::svg::C;
+use super::track::{At, Life, Sink, Span, What};
+
+/// The columns of one thread.
+#[derive(Clone, Debug)]
+pub struct Columns {
+    pub run: Vec<f32>,
+    pub blocked: Vec<f32>,
+    pub here: Vec<f32>,
+    pub wakes: Vec<u32>,
+    /// Least and greatest lag, the first above the second where there is none.
+    pub lags: Vec<(f64, f64)>,
+    /// Largest bound, 0 where there is none.
+    pub bound: Vec<f64>,
+}
+
+impl Columns {
+    fn new() -> Columns {
+        Columns {
+            run: vec![0.0; COLUMNS],
+            blocked: vec![0.0; COLUMNS],
+            here: vec![0.0; COLUMNS],
+            wakes: vec![0; COLUMNS],
+            lags: vec![(f64::INFINITY, f64::NEG_INFINITY); COLUMNS],
+            bound: vec![0.0; COLUMNS],
+        }
+    }
+}
+
+fn column(x: f64) -> usize {
+    ((x - LEFT).max(0.0) as usize).min(COLUMNS - 1)
+}
+
+/// The columns that a stretch of x touches, each with the part of the stretch
+/// in it.
+fn parts(x0: f64, x1: f64) -> impl Iterator<Item = (usize, f64, f64)> {
+    (column(x0)..=column(x1)).map(move |c| {
+        let edge = LEFT + c as f64;
+        (c, x0.max(edge), x1.min(edge + 1.0))
+    })
+}
+
+fn cover(columns: &mut [f32], x0: f64, x1: f64) {
+    for (c, from, to) in parts(x0, x1) {
+        columns[c] += (to - from).max(0.0) as f32;
+    }
+}
+
+pub struct Thin<'a> {
+    layout: &'a Layout,
+    pub threads: Vec<Option<Box<Columns>>>,
+    pub refusals: Vec<u32>,
+    pub starts: Vec<bool>,
+}
+
+impl<'a> Thin<'a> {
+    pub fn new(layout: &'a Layout) -> Thin<'a> {
+        Thin {
+            layout,
+            threads: vec![None; THREADS],
+            refusals: vec![0; COLUMNS],
+            starts: vec![false; COLUMNS],
+        }
+    }
+
+    fn columns(&mut self, thread: u8) -> &mut Columns {
+        self.threads[thread as usize].get_or_insert_with(|| Box::new(Columns::new()))
+    }
+}
+
+impl Sink for Thin<'_> {
+    fn span(&mut self, span: &Span) {
+        let (x0, x1) = (self.layout.x(span.from), self.layout.x(span.end()));
+        let columns = self.columns(span.thread);
+        match span.what {
+            What::Run => cover(&mut columns.run, x0, x1),
+            What::Wait => {}
+            What::Blocked => cover(&mut columns.blocked, x0, x1),
+        }
+        let (lag, last) = (span.lag as f64, span.last_lag() as f64);
+        let slope = if x1 > x0 {
+            (last - lag) / (x1 - x0)
+        } else {
+            0.0
+        };
+        for (c, from, to) in parts(x0, x1) {
+            let (mut a, mut b) = (lag + slope * (from - x0), lag + slope * (to - x0));
+            // Where the whole span lies in a column its ends count as they are.
+            if from == x0 {
+                a = lag;
+            }
+            if to == x1 {
+                b = last;
+            }
+            let (least, most) = &mut columns.lags[c];
+            *least = least.min(a).min(b);
+            *most = most.max(a).max(b);
+        }
+    }
+
+    fn life(&mut self, life: &Life) {
+        let to = At {
+            time: life.to,
+            ..life.from
+        };
+        let (x0, x1) = (self.layout.x(life.from), self.layout.x(to));
+        let columns = self.columns(life.thread);
+        cover(&mut columns.here, x0, x1);
+        for (c, _, _) in parts(x0, x1) {
+            columns.bound[c] = columns.bound[c].max(life.bound as f64);
+        }
+    }
+
+    fn wake(&mut self, thread: u8, at: At, _: u64) {
+        let c = column(self.layout.x(at));
+        self.columns(thread).wakes[c] += 1;
+    }
+
+    fn refusal(&mut self, at: At, _: u64, _: &Record, _: u32) {
+        self.refusals[column(self.layout.x(at))] += 1;
+    }
+
+    fn start(&mut self, at: At, _: (u64, u64)) {
+        self.starts[column(self.layout.x(at))] = true;
+    }
+}
+
+/// Columns as bars from a base line, up to `height` for a value of 1; down
+/// from it if the height is negative. A value above 0 is at least half a pixel.
+pub fn bars(values: impl Iterator<Item = f64>, base: f64, height: f64) -> String {
+    let mut path = String::new();
+    // The height of the bar that is being drawn, in half pixels.
+    let mut level = 0;
+    let mut end = 0;
+    for (c, value) in values.enumerate() {
+        end = c + 1;
+        let full = (height.abs() * 2.0).round();
+        let next = if value > 0.0 {
+            (value.min(1.0) * full).round().max(1.0) as i64
+        } else {
+            0
+        };
+        if next == level {
+            continue;
+        }
+        let (x, y) = (LEFT + c as f64, base - height.signum() * next as f64 / 2.0);
+        let _ = match (level, next) {
+            (0, _) => write!(path, "M{} {}V{}", C(x), C(base), C(y)),
+            (_, 0) => write!(path, "H{}V{}z", C(x), C(base)),
+            _ => write!(path, "H{}V{}", C(x), C(y)),
+        };
+        level = next;
+    }
+    if level > 0 {
+        let _ = write!(path, "H{}V{}z", C(LEFT + end as f64), C(base));
+    }
+    path
+}
+
+/// A line from the least to the greatest lag in each column.
+pub fn lag_lines(columns: &Columns, panel: &Panel) -> String {
+    let mut path = String::new();
+    for (c, &(least, most)) in columns.lags.iter().enumerate() {
+        if least <= most {
+            let (top, bottom) = (panel.y(most), panel.y(least));
+            // At least a pixel.
+            let more = ((1.0 - (bottom - top)) / 2.0).max(0.0);
+            let _ = write!(
+                path,
+                "M{} {}V{}",
+                C(LEFT + c as f64 + 0.5),
+                C(top - more),
+                C(bottom + more)
+            );
+        }
+    }
+    path
+}
+
+/// The bound over the columns.
+pub fn bound_line(columns: &Columns, panel: &Panel) -> String {
+    let mut path = String::new();
+    let mut level = 0.0;
+    for (c, &bound) in columns.bound.iter().enumerate() {
+        if bound == level {
+            continue;
+        }
+        let x = C(LEFT + c as f64);
+        if level > 0.0 {
+            let _ = write!(path, "H{x}");
+        }
+        if bound > 0.0 {
+            let _ = write!(path, "M{x} {}", C(panel.y(bound)));
+        }
+        level = bound;
+    }
+    if level > 0.0 {
+        let _ = write!(path, "H{}", C(LEFT + COLUMNS as f64));
+    }
+    path
+}

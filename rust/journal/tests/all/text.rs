@@ -1,0 +1,472 @@
+//! Text to blocks and back.
+
+use journal::codec::{self, kind, Record, BLOCK, RECORDS};
+use journal::progress::Progress;
+use journal::text::{self, Problem, PROBLEMS};
+use model::random::{any_record, journal, Rng};
+use model::replay::replay;
+
+fn decode(blocks: &[u8]) -> String {
+    let mut out = Vec::new();
+    text::decode(blocks, &mut out, &mut Progress::silent()).unwrap();
+    String::from_utf8(out).unwrap()
+}
+
+fn run(blocks: &[u8]) -> String {
+    let mut out = Vec::new();
+    text::run(blocks, &mut out, &mut Progress::silent()).unwrap();
+    String::from_utf8(out).unwrap()
+}
+
+fn encode(text: &str) -> Result<Vec<u8>, Vec<Problem>> {
+    text::encode(text.as_bytes(), false, &mut Progress::silent())
+}
+
+fn pack(text: &str) -> Result<Vec<u8>, Vec<Problem>> {
+    text::encode(text.as_bytes(), true, &mut Progress::silent())
+}
+
+/// Encodes a text that is wrong in one line only.
+fn problem(text: &str) -> (u64, String) {
+    let mut problems = encode(text).unwrap_err();
+    assert_eq!(problems.len(), 1, "{problems:?}");
+    let Problem { line, message } = problems.remove(0);
+    (line, message)
+}
+
+fn blocks(of: &[&[Record]]) -> Vec<u8> {
+    let row = (0u32..).zip(of);
+    row.flat_map(|(n, records)| codec::write(n, records).unwrap())
+        .collect()
+}
+
+#[test]
+fn every_kind_has_its_line() {
+    let zero = Record::default();
+    let table = [
+        (
+            "start thousandth 100 interval 20000",
+            Record {
+                kind: kind::START,
+                amount: 100,
+                ticks: 20_000,
+                ..zero
+            },
+        ),
+        (
+            "open 2 parent 0 ceiling 300",
+            Record {
+                kind: kind::OPEN,
+                subject: 2,
+                amount: 300,
+                ..zero
+            },
+        ),
+        (
+            "open 255 parent 254 ceiling 65535",
+            Record {
+                kind: kind::OPEN,
+                subject: 255,
+                group: 254,
+                amount: 65_535,
+                ..zero
+            },
+        ),
+        (
+            "close 2",
+            Record {
+                kind: kind::CLOSE,
+                subject: 2,
+                ..zero
+            },
+        ),
+        (
+            "admit 5 group 1 reservation 500",
+            Record {
+                kind: kind::ADMIT,
+                subject: 5,
+                group: 1,
+                amount: 500,
+                ..zero
+            },
+        ),
+        (
+            "remove 5",
+            Record {
+                kind: kind::REMOVE,
+                subject: 5,
+                ..zero
+            },
+        ),
+        (
+            "wake 5",
+            Record {
+                kind: kind::WAKE,
+                subject: 5,
+                ..zero
+            },
+        ),
+        (
+            "dispatch",
+            Record {
+                kind: kind::DISPATCH,
+                ..zero
+            },
+        ),
+        (
+            "report tick 20000",
+            Record {
+                kind: kind::REPORT,
+                ticks: 20_000,
+                ..zero
+            },
+        ),
+        (
+            "report block 12000",
+            Record {
+                kind: kind::REPORT,
+                reason: 1,
+                ticks: 12_000,
+                ..zero
+            },
+        ),
+        (
+            "report yield 0",
+            Record {
+                kind: kind::REPORT,
+                reason: 2,
+                ..zero
+            },
+        ),
+        (
+            "report exit 4294967295",
+            Record {
+                kind: kind::REPORT,
+                reason: 3,
+                ticks: u32::MAX,
+                ..zero
+            },
+        ),
+        (
+            "report reason 200 5",
+            Record {
+                kind: kind::REPORT,
+                reason: 200,
+                ticks: 5,
+                ..zero
+            },
+        ),
+    ];
+    for (line, record) in table {
+        let block = blocks(&[&[record]]);
+        assert_eq!(encode(line).unwrap(), block, "{line}");
+        assert_eq!(decode(&block), format!("block 0\n{line}\n"));
+    }
+}
+
+#[test]
+fn valid_blocks_round_trip() {
+    let mut r = Rng::new(1);
+    for _ in 0..3000 {
+        let count = r.below(6) as usize;
+        let rows: Vec<Vec<Record>> = (0..count)
+            .map(|_| {
+                let len = r.edgy(0, RECORDS as u64);
+                (0..len).map(|_| any_record(&mut r)).collect()
+            })
+            .collect();
+        let rows: Vec<&[Record]> = rows.iter().map(Vec::as_slice).collect();
+        let journal = blocks(&rows);
+        let text = decode(&journal);
+        assert!(!text.contains("damaged"));
+        assert_eq!(encode(&text).unwrap(), journal);
+        assert_eq!(encode(&run(&journal)).unwrap(), journal);
+    }
+}
+
+#[test]
+fn damaged_journals_round_trip() {
+    let mut r = Rng::new(2);
+    let mut damaged = 0;
+    for _ in 0..3000 {
+        let journal = journal(&mut r);
+        let text = decode(&journal);
+        damaged += text.matches("damaged").count();
+        assert_eq!(encode(&text).unwrap(), journal);
+        assert_eq!(encode(&run(&journal)).unwrap(), journal);
+    }
+    assert!(damaged > 1000, "{damaged}");
+}
+
+#[test]
+fn any_bytes_round_trip() {
+    let mut r = Rng::new(3);
+    for _ in 0..500 {
+        let len = r.edgy(0, 3 * BLOCK as u64);
+        let bytes: Vec<u8> = (0..len).map(|_| r.bits() as u8).collect();
+        assert_eq!(encode(&decode(&bytes)).unwrap(), bytes);
+    }
+}
+
+#[test]
+fn a_damaged_block_is_shown_with_place_refusal_and_bytes() {
+    let mut journal = blocks(&[&[], &[any_record(&mut Rng::new(4))], &[]]);
+    journal[BLOCK + 14] ^= 1;
+    journal.truncate(3 * BLOCK - 500);
+    let text = decode(&journal);
+    let lines: Vec<&str> = text.lines().collect();
+    assert_eq!(lines[0], "block 0");
+    assert_eq!(lines[1], "damaged 1 18 # check wrong");
+    // 14 bytes, 31 records, 2 bytes of check.
+    assert_eq!(lines[2].len(), "hex ".len() + 2 * 14);
+    assert_eq!(
+        lines[34],
+        format!("hex {:02x}{:02x}", journal[1022], journal[1023])
+    );
+    assert_eq!(lines[35], "damaged 2 17 # not 512 bytes");
+    assert_eq!(lines[36], "hex 020000000000000000000000");
+    assert_eq!(lines.len(), 37);
+}
+
+#[test]
+fn a_wrong_block_number_is_damage() {
+    let mut journal = blocks(&[&[], &[]]);
+    journal.copy_within(0..BLOCK, BLOCK);
+    assert!(decode(&journal).contains("damaged 1 19 #"));
+}
+
+#[test]
+fn records_are_packed_and_blank_lines_and_comments_skipped() {
+    let text = "\n# a comment\n  dispatch  # another\r\n\n".repeat(70);
+    let journal = encode(&text).unwrap();
+    assert_eq!(journal.len(), 3 * BLOCK);
+    let counts: Vec<u8> = journal.chunks(BLOCK).map(|block| block[4]).collect();
+    assert_eq!(counts, [31, 31, 8]);
+    assert_eq!(encode("").unwrap(), []);
+    assert_eq!(encode("# nothing\n").unwrap(), []);
+}
+
+#[test]
+fn block_lines_keep_boundaries_unless_packed_anew() {
+    let text = "dispatch\nblock 1\ndispatch\nblock\nblock 3\nwake 1\n";
+    let journal = encode(text).unwrap();
+    let counts: Vec<u8> = journal.chunks(BLOCK).map(|block| block[4]).collect();
+    assert_eq!(counts, [1, 1, 0, 1]);
+    let packed = pack(text).unwrap();
+    assert_eq!(decode(&packed), "block 0\ndispatch\ndispatch\nwake 1\n");
+    assert_eq!(encode("block 0\n").unwrap(), blocks(&[&[]]));
+}
+
+#[test]
+fn a_full_block_takes_no_more_records() {
+    let full = format!("block 0\n{}", "dispatch\n".repeat(31));
+    assert_eq!(encode(&full).unwrap().len(), BLOCK);
+    let (line, message) = problem(&format!("{full}dispatch\n"));
+    assert_eq!(line, 33);
+    assert!(message.starts_with("block 0 is full"), "{message}");
+    // The next one may begin without a line after a packed block.
+    let text = "dispatch\n".repeat(31) + "block 1\ndispatch\n";
+    assert_eq!(encode(&text).unwrap().len(), 2 * BLOCK);
+}
+
+#[test]
+fn problems_name_the_line_and_what_is_wrong_with_it() {
+    let table = [
+        ("dispach", "'dispach' begins no line: start, open,"),
+        ("Dispatch", "'Dispatch' begins no line"),
+        ("dispatch 5", "dispatch: '5' after the end of the line"),
+        (
+            "wake",
+            "wake: the line ends before the number of the thread",
+        ),
+        ("wake x5", "wake: the thread: 'x5' is not a decimal number"),
+        ("wake +5", "wake: the thread: '+5' is not a decimal number"),
+        ("wake -5", "wake: the thread: '-5' is not a decimal number"),
+        ("wake 256", "wake: the thread: '256' is above 255"),
+        (
+            "wake 99999999999999999999999",
+            "wake: the thread: '99999999999999999999999' is above 255",
+        ),
+        ("admit 5", "admit: the line ends where 'group' is expected"),
+        (
+            "admit 5 grp 0 reservation 1",
+            "admit: 'group' expected, 'grp' found",
+        ),
+        (
+            "admit 5 group 0 reservation",
+            "admit: the line ends before the number of reservation",
+        ),
+        (
+            "admit 5 group 0 reservation 65536",
+            "admit: reservation: '65536' is above 65535",
+        ),
+        ("report", "report: the line ends before the reason"),
+        ("report 0 5", "report: '0' is no reason: tick, block,"),
+        (
+            "report tick",
+            "report: the line ends before the number of the ticks",
+        ),
+        (
+            "report tick 4294967296",
+            "report: the ticks: '4294967296' is above 4294967295",
+        ),
+        (
+            "report reason 256 1",
+            "report: the reason: '256' is above 255",
+        ),
+        (
+            "start thousandth 100",
+            "start: the line ends where 'interval' is expected",
+        ),
+        ("block 7", "block 7 stands in the place of block 1"),
+        ("block x", "the block: 'x' is not a decimal number"),
+        ("block 1 2", "'2' after the end of the line"),
+        ("hex 00", "'hex' belongs under a line 'damaged'"),
+        (
+            "damaged 1",
+            "the line ends before the number of the refusal",
+        ),
+        ("damaged 1 20", "the refusal: '20' is above 19"),
+        ("damaged 1 18", "damaged block 1 has 0 bytes"),
+        (
+            "damaged 1 18\nhex 00",
+            "block 1 is refused with 17 (not 512 bytes), not 18",
+        ),
+        ("a\u{7f}b", "this is not text"),
+    ];
+    for (text, message) in table {
+        // On line 3, in block 0 or at the beginning of block 1.
+        let (line, found) = problem(&format!("# comment\ndispatch\n{text}\n"));
+        assert_eq!(line, 3, "{text}");
+        assert!(found.starts_with(message), "{text}: {found}");
+    }
+}
+
+#[test]
+fn problems_of_damaged_blocks() {
+    let good = decode(&blocks(&[&[]]));
+    assert_eq!(good, "block 0\n");
+    let block = codec::write(0, &[]).unwrap();
+    let hex: String = block.iter().map(|b| format!("{b:02x}")).collect();
+    let table = [
+        (
+            format!("damaged 0 18\nhex {hex}\n"),
+            1,
+            "the bytes of block 0 are not damaged",
+        ),
+        (
+            format!("damaged 3 18\nhex {hex}ff\n"),
+            1,
+            "damaged block 3 stands in the place of block 0",
+        ),
+        ("damaged 0 17\nhex 0\n".into(), 2, "'0' has half a byte"),
+        (
+            "damaged 0 17\nhex 0g\n".into(),
+            2,
+            "'0g' are not hexadecimal digits",
+        ),
+        (
+            "damaged 0 17\nhex 00\ndispatch\n".into(),
+            3,
+            "the block of line 1 has fewer than 512 bytes",
+        ),
+    ];
+    for (text, line, message) in table {
+        let problems = encode(&text).unwrap_err();
+        let expected = |p: &Problem| p.line == line && p.message.starts_with(message);
+        assert!(problems.iter().any(expected), "{text}: {problems:?}");
+    }
+    let hexed = format!("damaged 0 18\nhex {}\n", hex.replace("01", "02"));
+    assert!(encode(&hexed).is_ok());
+    assert_eq!(
+        pack(&hexed).unwrap_err()[0].message,
+        "a damaged block has no records to pack anew"
+    );
+}
+
+#[test]
+fn all_problems_are_named_up_to_a_number() {
+    let problems = encode("wake\ndispatch\nwake x\n\nadmit\n").unwrap_err();
+    let lines: Vec<u64> = problems.iter().map(|p| p.line).collect();
+    assert_eq!(lines, [1, 3, 5]);
+    let problems = encode(&"wake\n".repeat(1000)).unwrap_err();
+    assert_eq!(problems.len(), PROBLEMS);
+    // A bad record still counts as one, so the block after it is block 1.
+    assert_eq!(encode("wake\nblock 1\nwake 1\n").unwrap_err().len(), 1);
+}
+
+#[test]
+fn blocks_given_for_text_are_recognised() {
+    let mut r = Rng::new(5);
+    let records: Vec<Record> = (0..31).map(|_| any_record(&mut r)).collect();
+    let journal = blocks(&[&records]);
+    let problems = text::encode(&journal, false, &mut Progress::silent()).unwrap_err();
+    assert_eq!(problems.len(), 1);
+    assert!(problems[0].message.starts_with("this is not text"));
+}
+
+#[test]
+fn run_answers_as_the_replay_does() {
+    let mut r = Rng::new(6);
+    for _ in 0..1000 {
+        let journal = journal(&mut r);
+        let text = run(&journal);
+        let mut printed = String::new();
+        for line in text.lines() {
+            let Some((_, comment)) = line.split_once('#') else {
+                continue;
+            };
+            let numbers = if comment.starts_with(" block") { 3 } else { 5 };
+            let words: Vec<&str> = comment.split_whitespace().take(numbers).collect();
+            printed.push_str(&words.join(" "));
+            printed.push('\n');
+        }
+        assert_eq!(printed.as_bytes(), replay(&journal));
+    }
+}
+
+#[test]
+fn run_says_why() {
+    let text = run(&encode("dispatch\nwake 3\nreport tick 0\n").unwrap());
+    let lines: Vec<&str> = text.lines().collect();
+    assert!(lines[1].ends_with("# 0 0 64 0 0 idle"));
+    assert!(lines[2].ends_with("# 1 7 0 0 0 number above 63 or not admitted"));
+    assert!(lines[3].ends_with("# 2 11 0 0 0 nothing is running"));
+}
+
+#[test]
+fn mangled_text_gives_blocks_or_problems() {
+    let mut r = Rng::new(7);
+    let (mut good, mut bad) = (0, 0);
+    for _ in 0..3000 {
+        let mut bytes = decode(&journal(&mut r)).into_bytes();
+        for _ in 0..r.below(4) {
+            if bytes.is_empty() {
+                break;
+            }
+            let at = r.below(bytes.len() as u64) as usize;
+            match r.below(4) {
+                0 => {
+                    bytes.remove(at);
+                }
+                1 => bytes[at] = r.pick(b"09 \n#abx\xff"),
+                2 => bytes.insert(at, r.bits() as u8),
+                _ => bytes.truncate(at),
+            }
+        }
+        match text::encode(&bytes, false, &mut Progress::silent()) {
+            Ok(blocks) => {
+                good += 1;
+                assert_eq!(encode(&decode(&blocks)).unwrap(), blocks);
+            }
+            Err(problems) => {
+                bad += 1;
+                let lines = bytes.split(|&b| b == b'\n').count() as u64;
+                assert!(!problems.is_empty() && problems.len() <= PROBLEMS);
+                assert!(problems.iter().all(|p| (1..=lines).contains(&p.line)));
+                assert!(problems.is_sorted_by_key(|p| p.line));
+            }
+        }
+    }
+    assert!(good > 500 && bad > 500, "{good} {bad}");
+}
