@@ -6,7 +6,7 @@ use Rattle.scheduler.proofs.Example.{computes}
 use Rattle.block.specs.Block.{blockOf, bodyOf, partsOf, readOf, isBlock, recordsIn, allForm}
 use Rattle.sector.specs.Seal.{sums, isSealed}
 use Rattle.sector.specs.Lists.{same}
-use Rattle.record.specs.Record.{hasForm}
+use Rattle.record.specs.Record.{usedBy, hasForm}
 use Rattle.text.specs.Decimal.{digitsTo, digits, lineOf}
 use Rattle.replay.specs.Replay.{callOf, startOn, replyTo, after, recordLine, linesOf, afterAll, readAt, isRead, blockLine, nextPlace, onward, blockPrinted, blockLeft, blocksIn, printedTo, leftBy, beginning, printed}
 use Rattle.replay.specs.Examples.{agree, table, listing, listingText, listingEnd}
@@ -17,5 +17,5 @@ use Rattle.accounts.specs.Roster.{stateOf, entryOf, rosterOf}
 use Rattle.scheduler.specs.Rule.{startReply}
 
 pub table-holds : agree table ≡ true
-unfolding computes agree table listing listingText listingEnd lagOf shareOf before keyOf keysBelow insert ordered stateOf entryOf rosterOf callOf startOn replyTo after recordLine linesOf afterAll readAt isRead blockLine nextPlace onward blockPrinted blockLeft blocksIn printedTo leftBy beginning printed blockOf bodyOf partsOf readOf isBlock recordsIn allForm sums isSealed same hasForm digitsTo digits lineOf startRefusal startReply
+unfolding computes agree table listing listingText listingEnd lagOf shareOf before keyOf keysBelow insert ordered stateOf entryOf rosterOf callOf startOn replyTo after recordLine linesOf afterAll readAt isRead blockLine nextPlace onward blockPrinted blockLeft blocksIn printedTo leftBy beginning printed blockOf bodyOf partsOf readOf isBlock recordsIn allForm sums isSealed same usedBy hasForm digitsTo digits lineOf startRefusal startReply
 table-holds = refl
