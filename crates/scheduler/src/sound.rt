@@ -20,14 +20,14 @@ const GROUPS: usize = Scheduler::GROUPS as usize;
 
 // A pass over the list: whether its entries are thread numbers, each once, and which numbers they are.
 struct Seen {
-    ok: bool,
     seen: [bool; 64],
+    ok: bool,
 }
 
 // A pass over the threads: whether each is in order, and the reservations in each group.
 pub(crate) struct Pass {
-    pub(crate) ok: bool,
     pub(crate) used: [u32; 16],
+    pub(crate) ok: bool,
 }
 
 impl Settings {
