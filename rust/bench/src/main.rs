@@ -2,9 +2,11 @@
 //!
 //!     bench               every row, as ratios (bench.sh)
 //!     bench one CALL N    each accepted case of a call N times (callgrind.sh)
+//!     bench journals      the program mtrrun beside the model's replay (after rt check mtrrun)
 //!     bench calls         the names that `bench one` takes
 
 mod cases;
+mod journals;
 mod states;
 mod times;
 
@@ -15,6 +17,7 @@ fn main() -> ExitCode {
     let words: Vec<&str> = words.iter().map(String::as_str).collect();
     match words[..] {
         [] => times::print(),
+        ["journals"] => journals::print(),
         ["calls"] => println!("{}", cases::CALLS.join("\n")),
         ["one", call, n] if cases::CALLS.contains(&call) => match n.parse() {
             Ok(n) => cases::run(call, n),
@@ -24,7 +27,7 @@ fn main() -> ExitCode {
             }
         },
         _ => {
-            eprintln!("usage: bench | bench calls | bench one CALL N");
+            eprintln!("usage: bench | bench journals | bench calls | bench one CALL N");
             return ExitCode::FAILURE;
         }
     }
