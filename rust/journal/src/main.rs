@@ -34,7 +34,8 @@ Options of every command:
 
 Exit status: 0 if the result was written; 1 if the input was bad or could not
 be read, or the result could not be written; 2 if the command line was wrong.
-With 1 and 2 no result is written, and standard error says why and where.
+Bad input and a wrong command line give no result at all, and standard error
+says why and where.
 
 'journal COMMAND --help' tells more.
 ";

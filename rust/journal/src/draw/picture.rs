@@ -69,20 +69,20 @@ impl<'a> Picture<'a> {
 
     /// The whole SVG. The journal is run for the shapes.
     pub fn whole(mut self, journal: &[u8], progress: &mut Progress) -> String {
-        self.open();
-        self.legend();
-        self.grid();
         match self.detail {
             Detail::Exact { roomy, titles } => {
                 let mut exact = Exact::new(self.layout, roomy, titles);
                 track(journal, progress, &mut exact);
+                self.background(1);
                 self.exact_shapes(&exact, titles);
                 self.flags(&exact.starts);
             }
             Detail::Thin => {
                 let mut thin = Thin::new(self.layout);
                 track(journal, progress, &mut thin);
-                self.thin_shapes(&thin);
+                let times = thin.enlarged();
+                self.background(times);
+                self.thin_shapes(&thin, times);
                 let starts = (0..COLUMNS).filter(|&c| thin.starts[c]);
                 let starts: Vec<f64> = starts.map(|c| LEFT + c as f64).collect();
                 self.flags(&starts);
@@ -96,6 +96,13 @@ impl<'a> Picture<'a> {
         }
         self.svg.out.push_str("</svg>\n");
         self.svg.out
+    }
+
+    /// What stands behind and above the shapes.
+    fn background(&mut self, times: u32) {
+        self.open();
+        self.legend(times);
+        self.grid();
     }
 
     fn name(&self, thread: u8) -> String {
@@ -163,8 +170,9 @@ impl<'a> Picture<'a> {
         self.svg.text(16.0, 53.0, Anchor::Start, "quiet", &facts);
     }
 
-    /// What the shapes mean; only those that occur.
-    fn legend(&mut self) {
+    /// What the shapes mean; only those that occur. Thinned out, the heights of
+    /// who has the core are enlarged so many times.
+    fn legend(&mut self, times: u32) {
         let s = self.survey;
         let y = 80.0;
         let mut x = 16.0;
@@ -172,7 +180,7 @@ impl<'a> Picture<'a> {
         let mut item = |w: f64, text: &str, shape: &dyn Fn(&mut Svg, f64)| {
             shape(svg, x);
             svg.text(x + w + 6.0, y, Anchor::Start, "quiet", text);
-            x += w + 6.0 + width(text, 12.0) + 20.0;
+            x += w + 6.0 + width(text, 12.0) + 16.0;
         };
         let exact = self.detail != Detail::Thin;
         if s.numbers().next().is_some() {
@@ -213,8 +221,12 @@ impl<'a> Picture<'a> {
             });
         }
         if !exact {
-            let note = "(thinned out: heights are parts of the time)";
-            item(0.0, note, &|_, _| {});
+            let mut note = "(heights: parts of the time".to_string();
+            if times > 1 {
+                let _ = write!(note, ", core \u{d7} {times}");
+            }
+            note.push(')');
+            item(0.0, &note, &|_, _| {});
         }
     }
 
@@ -345,7 +357,7 @@ impl<'a> Picture<'a> {
         }
     }
 
-    fn thin_shapes(&mut self, thin: &Thin) {
+    fn thin_shapes(&mut self, thin: &Thin, times: u32) {
         let l = self.layout;
         let most = thin.threads.iter().flatten().flat_map(|c| &c.wakes).max();
         let most = most.copied().unwrap_or(0).max(1) as f64;
@@ -354,12 +366,12 @@ impl<'a> Picture<'a> {
                 continue;
             };
             let (top, bottom) = (lane.top, lane.top + lane.bar);
-            for (class, values, base, height) in [
-                ("here", &columns.here, bottom, lane.bar),
-                ("blocked", &columns.blocked, top, -lane.bar),
-                ("run", &columns.run, bottom, lane.bar),
+            for (class, values, base, height, times) in [
+                ("here", &columns.here, bottom, lane.bar, 1),
+                ("blocked", &columns.blocked, top, -lane.bar, 1),
+                ("run", &columns.run, bottom, lane.bar, times),
             ] {
-                let parts = values.iter().map(|&part| part as f64);
+                let parts = values.iter().map(|&part| part as f64 * times as f64);
                 self.svg.path(class, &thin::bars(parts, base, height));
             }
             let wakes = columns.wakes.iter().map(|&wakes| wakes as f64 / most);

@@ -73,6 +73,20 @@ impl<'a> Thin<'a> {
         }
     }
 
+    /// How many times the parts with the core can be enlarged so that hardly any
+    /// outgrows its lane.
+    pub fn enlarged(&self) -> u32 {
+        let columns = self.threads.iter().flatten();
+        let parts = columns.flat_map(|c| c.run.iter().copied().filter(|&part| part > 0.0));
+        let mut parts: Vec<f32> = parts.collect();
+        parts.sort_by(f32::total_cmp);
+        let Some(&large) = parts.get(parts.len() * 98 / 100) else {
+            return 1;
+        };
+        let fits = |times: &u32| *times as f32 * large <= 1.0;
+        [50, 20, 10, 5, 2].into_iter().find(fits).unwrap_or(1)
+    }
+
     fn columns(&mut self, thread: u8) -> &mut Columns {
         self.threads[thread as usize].get_or_insert_with(|| Box::new(Columns::new()))
     }

@@ -187,7 +187,7 @@ fn a_long_journal_is_thinned_out() {
     assert!(outcome.records.len() > 100_000);
     let svg = svg(&outcome.journal());
     check(&svg);
-    assert!(svg.contains("thinned out"));
+    assert!(svg.contains("(heights: parts of the time)"));
     assert!(svg.len() < 200_000, "{}", svg.len());
 }
 
