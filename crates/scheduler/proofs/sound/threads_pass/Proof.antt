@@ -74,44 +74,44 @@ low c =
     numbers-of (s .args .m) (s .args .meter) (getD (s .args .t1) (c .before .before .before .before .before .before .before .loop .i) noThread)
     (sym (c .before .before .bounds-ok .ensures) ∙ not-false _ (c .before .if4 .left)) .low
 
-mul-home : tie.Need-mul-home Inv-loop μ-loop
-mul-home c = scaled-fits ((getD (c .before .before .before .before .before .before .before .before .args .t1) (c .before .before .before .before .before .before .before .loop .i) noThread) .group) 16 4 (low c) (lit< tt)
+mul-opened : tie.Need-mul-opened Inv-loop μ-loop
+mul-opened c = scaled-fits ((getD (c .before .before .before .before .before .before .before .before .args .t1) (c .before .before .before .before .before .before .before .loop .i) noThread) .group) 16 4 (low c) (lit< tt)
 
-array-copy-out-home : tie.Need-array-copy-out-home Inv-loop μ-loop
-array-copy-out-home c = low c
+element-copy-out-opened : tie.Need-element-copy-out-opened Inv-loop μ-loop
+element-copy-out-opened c = low c
 
 failed-requires-4 : tie.Need-failed-requires-4 Inv-loop μ-loop
 failed-requires-4 c κs = tt
 
 returns-4 : tie.Need-returns-4 Inv-loop μ-loop
-returns-4 c = inv-home (c .before .before .before .before .before .before .before .before .before .before .before .loop .inv) (c .before .before .before .before .before .before .before .before .before .before .loop-test .taken) (c .before .before .before .before .before .before .before .before .if1 .left) (c .before .if5 .taken) (c .failed4 .ensures)
+returns-4 c = inv-home (c .before .before .before .before .before .before .before .before .before .loop .inv) (c .before .before .before .before .before .before .before .before .loop-test .taken) (c .before .before .before .before .before .before .if1 .left) (c .before .if5 .taken) (c .failed4 .ensures)
 
 mul-used : tie.Need-mul-used Inv-loop μ-loop
-mul-used c = scaled-fits ((getD (c .before .before .before .before .before .before .before .before .before .before .before .args .t1) (c .before .before .before .before .before .before .before .before .before .before .loop .i) noThread) .group) 16 4 (low (c .before .before .before)) (lit< tt)
+mul-used c = scaled-fits ((getD (c .before .before .before .before .before .before .before .before .before .args .t1) (c .before .before .before .before .before .before .before .before .loop .i) noThread) .group) 16 4 (low (c .before)) (lit< tt)
 
 array-read-used : tie.Need-array-read-used Inv-loop μ-loop
-array-read-used c = low (c .before .before .before)
+array-read-used c = low (c .before)
 
 cast-used : tie.Need-cast-used Inv-loop μ-loop
-cast-used c = fits-widen tt (c .struct-known3 .given .1 .1 .1 .1 .1 .0)
+cast-used c = fits-widen tt (c .struct-known2 .given .1 .1 .1 .1 .1 .0)
 
 add-used : tie.Need-add-used Inv-loop μ-loop
-add-used c = sum-fits (c .before .before .before .before .before .before .before .before .before .before .before .loop .inv) (c .before .before .before .before .before .before .before .before .before .before .loop-test .taken) (c .before .before .before .before .before .before .before .before .if1 .left) (c .before .before .before .before .before .before .before .if3 .left) (c .before .before .before .before .before .before .bounds-ok .ensures) (not-false _ (c .before .before .before .before .before .if4 .left)) (c .before .if5 .left)
+add-used c = sum-fits (c .before .before .before .before .before .before .before .before .before .loop .inv) (c .before .before .before .before .before .before .before .before .loop-test .taken) (c .before .before .before .before .before .before .if1 .left) (c .before .before .before .before .before .if3 .left) (c .before .before .before .before .bounds-ok .ensures) (not-false _ (c .before .before .before .if4 .left)) (c .before .if5 .left)
 
 mul-used-2 : tie.Need-mul-used-2 Inv-loop μ-loop
-mul-used-2 c = scaled-fits ((getD (c .before .before .before .before .before .before .before .before .before .before .before .before .args .t1) (c .before .before .before .before .before .before .before .before .before .before .before .loop .i) noThread) .group) 16 4 (low (c .before .before .before .before)) (lit< tt)
+mul-used-2 c = scaled-fits ((getD (c .before .before .before .before .before .before .before .before .before .before .args .t1) (c .before .before .before .before .before .before .before .before .before .loop .i) noThread) .group) 16 4 (low (c .before .before)) (lit< tt)
 
 array-write-used : tie.Need-array-write-used Inv-loop μ-loop
-array-write-used c = low (c .before .before .before .before)
+array-write-used c = low (c .before .before)
 
 add-i-2 : tie.Need-add-i-2 Inv-loop μ-loop
-add-i-2 c = next-fits (c .before .before .before .before .before .before .before .before .before .before .before .loop .i) (c .before .before .before .before .before .before .before .before .before .before .loop-test .taken)
+add-i-2 c = next-fits (c .before .before .before .before .before .before .before .before .before .loop .i) (c .before .before .before .before .before .before .before .before .loop-test .taken)
 
 loop-less-2 : tie.Need-loop-less-2 Inv-loop μ-loop
-loop-less-2 c = falls 64 (c .before .before .before .before .before .before .before .before .before .before .before .loop .i) (c .before .before .before .before .before .before .before .before .before .before .loop-test .taken)
+loop-less-2 c = falls 64 (c .before .before .before .before .before .before .before .before .before .loop .i) (c .before .before .before .before .before .before .before .before .loop-test .taken)
 
 loop-again-2 : tie.Need-loop-again-2 Inv-loop μ-loop
-loop-again-2 c = inv-add (c .before .before .before .before .before .before .before .before .before .before .before .loop .inv) (c .before .before .before .before .before .before .before .before .before .before .loop-test .taken) (c .before .before .before .before .before .before .before .before .if1 .left) (c .before .before .before .before .before .before .before .if3 .left) (c .before .before .before .before .before .before .bounds-ok .ensures) (not-false _ (c .before .before .before .before .before .if4 .left)) (c .before .if5 .left)
+loop-again-2 c = inv-add (c .before .before .before .before .before .before .before .before .before .loop .inv) (c .before .before .before .before .before .before .before .before .loop-test .taken) (c .before .before .before .before .before .before .if1 .left) (c .before .before .before .before .before .if3 .left) (c .before .before .before .before .bounds-ok .ensures) (not-false _ (c .before .before .before .if4 .left)) (c .before .if5 .left)
 
 returns-5 : tie.Need-returns-5 Inv-loop μ-loop
 returns-5 c = inv-idle (c .before .before .loop .inv) (c .before .loop-test .left) (c .if6 .taken)
@@ -151,8 +151,8 @@ threads-pass-spec =
     failed-requires-3
     returns-3
     cast-g
-    mul-home
-    array-copy-out-home
+    mul-opened
+    element-copy-out-opened
     failed-requires-4
     returns-4
     mul-used
