@@ -8,7 +8,7 @@ use native.Mathlib.Omega.{arith}
 use lib.ListN.{getD, set}
 use lib.Seq.{set-getD}
 use lib.Dec.{T, ltb, eqb}
-use borrow.Author.Tests.{lt-ltb, le-ltb, le-leb, lt-leb, eq-eqb, ne-eqb, eqb-true, eqb-false}
+use borrow.Author.Tests.{lt-ltb, le-ltb, le-leb, lt-leb, eq-eqb, ne-eqb, eqb-true}
 use Rattle.order.proofs.Bools.{cases, holds}
 use Rattle.scheduler.specs.declared.Thread.{Thread}
 use Rattle.scheduler.specs.declared.Group.{Group}
@@ -23,7 +23,7 @@ use Rattle.scheduler.specs.Rule.{isDispatch, step}
 use Rattle.scheduler.specs.Answers.{replyOf}
 use Rattle.scheduler.proofs.Facts.{facts, open-small, settings-facts}
 use Rattle.scheduler.proofs.Passed.{OpenOk, AdmitOk, passes, open-ok, close-ok, admit-ok}
-use Rattle.scheduler.proofs.Replies.{answered, accepted, refused, rest}
+use Rattle.scheduler.proofs.Replies.{answered, settled, rest}
 use Rattle.scheduler.proofs.Reserve.{in-use, newcomer}
 
 -- the checks of an amount
@@ -114,25 +114,14 @@ module _ (s : Scheduler) (n g d : ℕ) where
 clear : (c : Call) (s : Scheduler) (k : ℕ) → k ≡ refusal c s → eqb k 0 ≡ true → refusal c s ≡ 0
 clear c s k e t = sym e ∙ eqb-true k 0 t
 
-decided : (c : Call) (s s′ : Scheduler) (k : ℕ) → isDispatch c ≡ false → k ≡ refusal c s → (a : Answer) → a ≡ cond (eqb k 0) Accepted (Refused k)
-    → (eqb k 0 ≡ true → s′ ≡ effect c s) → (eqb k 0 ≡ false → s′ ≡ s) → replyOf (answered a s′) ≡ step c s
-decided c s s′ k d e a q new old =
-    cases (eqb k 0)
-    (λ t.
-    let is : a ≡ Accepted = cc in
-    ap (λ (x : Answer). replyOf (answered x s′)) is ∙ accepted c s s′ d (clear c s k e t) (new t))
-    (λ t.
-    let is : a ≡ Refused k = cc in
-    ap (λ (x : Answer). replyOf (answered x s′)) is ∙ ap (λ (z : Scheduler). replyOf (answered (Refused k) z)) (old t) ∙ refused c s k e (eqb-false k 0 t))
-
 -- a call that stores one group
 group-done : (c : Call) (s : Scheduler) (n k : ℕ) (new : Group) → isDispatch c ≡ false → effect c s ≡ withGroup s n new → k ≡ refusal c s → (eqb k 0 ≡ true → n < 16)
     → (a : Answer) → a ≡ cond (eqb k 0) Accepted (Refused k) → (g : Group) → g ≡ cond (eqb k 0) new (groupAt s (n % 16))
     → replyOf (answered a (withGroup s (n % 16) g)) ≡ step c s
 unfolding withGroup
 group-done c s n k new d f e small a q g u =
-    decided c s (withGroup s (n % 16) g) k d e a q
-    (λ t.
+    settled c s (withGroup s (n % 16) g) d k e a q
+    (λ t _.
     let at : n % 16 ≡ n = omega (arith, small t) in
     let is : g ≡ new = cc in
     ap (withGroup s (n % 16)) is ∙ ap (λ (j : ℕ). withGroup s j new) at ∙ sym f)
@@ -200,4 +189,4 @@ module _ (s : Scheduler) (n g f k : ℕ) (e : k ≡ refusal (admit n g f) s) whe
 
     pub admit-done : replyOf (answered a (entered s (n % 64) t (s .count % 64) o j)) ≡ step (admit n g f) s
     unfolding isDispatch
-    admit-done = decided (admit n g f) s (entered s (n % 64) t (s .count % 64) o j) k refl e a q entered-new entered-old
+    admit-done = settled (admit n g f) s (entered s (n % 64) t (s .count % 64) o j) refl k e a q (λ z _. entered-new z) entered-old

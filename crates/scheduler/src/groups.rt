@@ -16,11 +16,11 @@ ghost use Rattle.scheduler.specs.Answers.{replyOf, subtreeOf};
 ghost use Rattle.scheduler.specs.Tree.{subtreeTotal};
 ghost use Rattle.scheduler.specs.Subtree.{subtreeReply, Rooted};
 ghost use Rattle.scheduler.specs.TestParts.{Sums};
-use crate::Answer;
 use crate::Answered;
 use crate::Group;
 use crate::Scheduler;
 use crate::Thread;
+use crate::run;
 
 const GROUPS: u64 = Scheduler::GROUPS as u64;
 
@@ -118,16 +118,6 @@ fn count_if(accepted: bool, count: u32) -> u32
     ensures { λ r. ⌜ r ≡ cond accepted (count + 1) count ⌝ }
 {
     if accepted { count + 1 } else { count }
-}
-
-// The answer of a call with a refusal's number, or 0.
-pub(crate) fn answered(code: u32) -> Answer
-    ensures { λ r. ⌜ r ≡ cond (eqb code 0) Answer.Accepted (Answer.Refused code) ⌝ }
-{
-    if code == 0 {
-        return Answer::Accepted;
-    }
-    Answer::Refused(code)
 }
 
 // Whether a group is open.
@@ -313,7 +303,7 @@ impl Scheduler {
         let group = old.opened_if(code == 0, parent, ceiling);
         self.groups[at] = group;
         Answered {
-            answer: answered(code),
+            answer: run::answered(code),
             state: self,
         }
     }
@@ -332,7 +322,7 @@ impl Scheduler {
         let group = old.closed_if(code == 0);
         self.groups[at] = group;
         Answered {
-            answer: answered(code),
+            answer: run::answered(code),
             state: self,
         }
     }
@@ -371,7 +361,7 @@ impl Scheduler {
         self.order[rear] = place_if(accepted, last, at as u8);
         self.count = count_if(accepted, count);
         Answered {
-            answer: answered(code),
+            answer: run::answered(code),
             state: self,
         }
     }

@@ -151,14 +151,17 @@ fn threads_pass(
     while i < THREADS {
         let t = threads[i];
         let status = t.status;
-        if status == 0 {
-            if seen[i] {
+        if !seen[i] {
+            if status != 0 {
                 return failed();
             }
             i += 1;
             continue;
         }
-        if (2 < status) | !seen[i] {
+        if status == 0 {
+            return failed();
+        }
+        if 2 < status {
             return failed();
         }
         if !bounds_ok(t, m, meter) {
