@@ -21,12 +21,14 @@ use crate::Scheduler;
 use crate::Settings;
 use crate::Thread;
 
-// The reasons of a report but 0, a tick.
-const BLOCK: u64 = 1;
+// The reasons of a report.
+pub const TICK: u64 = 0;
 
-const YIELD: u64 = 2;
+pub const BLOCK: u64 = 1;
 
-const EXIT: u64 = 3;
+pub const YIELD: u64 = 2;
+
+pub const EXIT: u64 = 3;
 
 // The meter, or a thread's own count, after a report of the ticks used.
 fn charge(total: u64, used: u64) -> u64
