@@ -37,7 +37,7 @@ const HEAD: &str = r#"/*
  *     state = reply.state;
  *
  * An answer is MTR_ACCEPTED or one of MTR_REFUSED_*. The library holds no
- * memory of its own, allocates none and calls nothing but memcpy and memset.
+ * memory of its own, allocates none, and of libc calls the mem functions alone.
  * Every value of every argument is allowed, also a state of arbitrary bytes. A
  * pointer is not null and is valid for the length that goes with it. One tick
  * is a microsecond; reservations and ceilings are thousandths of the core.
