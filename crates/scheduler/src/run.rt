@@ -505,17 +505,17 @@ impl Scheduler {
         let thread = self.threads[at];
         let slice = thread.slice(self.settings.interval);
         let code = report_code(ok, running, reason, slice, used);
-        let accepted = code == 0;
+        let charges = code == 0;
         let count = self.count;
         let list = self.order;
-        let meter = meter_after(accepted, self.meter, used);
-        let reported = thread.reported(accepted, meter, self.settings.thousandth, reason, used);
-        let moves = accepted & thread.moves(reason, used);
+        let meter = meter_after(charges, self.meter, used);
+        let reported = thread.reported(charges, meter, self.settings.thousandth, reason, used);
+        let moves = charges & thread.moves(reason, used);
         let moved = requeued(list, count as usize, at as u8, moves);
         self.threads[at] = reported;
         self.order = moved;
-        self.count = count_after(count, accepted & (reason == EXIT));
-        self.running = running_after(accepted, Self::THREADS, running);
+        self.count = count_after(count, charges & (reason == EXIT));
+        self.running = running_after(charges, Self::THREADS, running);
         self.meter = meter;
         Answered {
             answer: answered(code),

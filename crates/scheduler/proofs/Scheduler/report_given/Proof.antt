@@ -30,6 +30,19 @@ module _ (c : tie.After-report-code) where
   bounds : eqb (c .report-code .result) 0 ≡ true → Ready S reason used
   bounds z = ready S reason used (sym number ∙ eqb-true (c .report-code .result) 0 z)
 
+returns : tie.Need-returns
+returns c =
+    let x = c .before in
+    let n = x .before in
+    let q = n .before in
+    let v = q .before in
+    let t = v .before in
+    let m = t .before in
+    let k = m .before .before in
+    report-done (S k) (reason k) (used k) (k .report-code .result) (number k) (c .answered .result) (c .answered .ensures) (t .reported .result)
+    (t .reported .ensures (S k) (λ z. sym (m .meter-after .ensures ∙ rw z)) refl) (v .moves .result) (v .moves .ensures) (q .requeued .result) (q .requeued .ensures)
+    (m .meter-after .result) (m .meter-after .ensures) (n .count-after .result) (n .count-after .ensures) (x .running-after .result) (x .running-after .ensures)
+
 cast-at : tie.Need-cast-at
 cast-at c = search needs
 
@@ -80,19 +93,6 @@ running-after-requires c κs = search needs
 
 answered-requires : tie.Need-answered-requires
 answered-requires c κs = search needs
-
-returns : tie.Need-returns
-returns c =
-    let x = c .before in
-    let n = x .before in
-    let q = n .before in
-    let v = q .before in
-    let t = v .before in
-    let m = t .before in
-    let k = m .before .before in
-    report-done (S k) (reason k) (used k) (k .report-code .result) (number k) (c .answered .result) (c .answered .ensures) (t .reported .result)
-    (t .reported .ensures (S k) (λ z. sym (m .meter-after .ensures ∙ rw z)) refl) (v .moves .result) (v .moves .ensures) (q .requeued .result) (q .requeued .ensures)
-    (m .meter-after .result) (m .meter-after .ensures) (n .count-after .result) (n .count-after .ensures) (x .running-after .result) (x .running-after .ensures)
 
 pub report-given-spec : {M : Type 1} → statement M
 report-given-spec =
