@@ -8,6 +8,7 @@ ghost use lib.Dec.{ltb, leb, eqb};
 ghost use lib.ListN.{take, drop};
 ghost use Rattle.order.specs.Queue.{requeue};
 ghost use Rattle.scheduler.specs.State.{noThread};
+ghost use Rattle.scheduler.specs.Sound.{sound};
 ghost use Rattle.scheduler.specs.Refusals.{remove, wake, dispatch, report, _⇒_, firstOf, startRefusal};
 ghost use Rattle.scheduler.specs.Effects.{renewed, chargedThread, wokenThread, unstarted};
 ghost use Rattle.scheduler.specs.Rule.{step, startReply};
@@ -316,10 +317,18 @@ impl Scheduler {
     }
 
     // Takes a thread off the list and frees its number and reservation.
-    pub fn remove(mut self, number: u64) -> Answered
+    pub fn remove(self, number: u64) -> Answered
         ensures { λ r. ⌜ replyOf r ≡ step (remove number) self ⌝ }
     {
         let ok = self.sound();
+        self.remove_given(ok, number)
+    }
+
+    // The same, where it is known whether the state is sound.
+    pub(crate) fn remove_given(mut self, ok: bool, number: u64) -> Answered
+        requires { ⌜ ok ≡ sound self ⌝ }
+        ensures { λ r. ⌜ replyOf r ≡ step (remove number) self ⌝ }
+    {
         let at = (number % Self::THREADS as u64) as usize;
         let status = self.threads[at].status;
         let code = remove_code(ok, number, status, self.running);
@@ -341,10 +350,18 @@ impl Scheduler {
     }
 
     // Makes a blocked thread runnable.
-    pub fn wake(mut self, number: u64) -> Answered
+    pub fn wake(self, number: u64) -> Answered
         ensures { λ r. ⌜ replyOf r ≡ step (wake number) self ⌝ }
     {
         let ok = self.sound();
+        self.wake_given(ok, number)
+    }
+
+    // The same, where it is known whether the state is sound.
+    pub(crate) fn wake_given(mut self, ok: bool, number: u64) -> Answered
+        requires { ⌜ ok ≡ sound self ⌝ }
+        ensures { λ r. ⌜ replyOf r ≡ step (wake number) self ⌝ }
+    {
         let at = (number % Self::THREADS as u64) as usize;
         let thread = self.threads[at];
         let code = wake_code(ok, number, thread.status);
@@ -361,10 +378,18 @@ impl Scheduler {
     }
 
     // Takes the first runnable thread of the list. `before` counts the entries passed, which are blocked.
-    pub fn dispatch(mut self) -> Answered
+    pub fn dispatch(self) -> Answered
         ensures { λ r. ⌜ replyOf r ≡ step dispatch self ⌝ }
     {
         let ok = self.sound();
+        self.dispatch_given(ok)
+    }
+
+    // The same, where it is known whether the state is sound.
+    pub(crate) fn dispatch_given(mut self, ok: bool) -> Answered
+        requires { ⌜ ok ≡ sound self ⌝ }
+        ensures { λ r. ⌜ replyOf r ≡ step dispatch self ⌝ }
+    {
         let code = dispatch_code(ok, self.running, self.meter);
         let mut answer = Answer::Refused(code);
         if code == 0 {
@@ -394,10 +419,18 @@ impl Scheduler {
     }
 
     // Charges the running thread the ticks used, and ends its run.
-    pub fn report(mut self, reason: u64, used: u64) -> Answered
+    pub fn report(self, reason: u64, used: u64) -> Answered
         ensures { λ r. ⌜ replyOf r ≡ step (report reason used) self ⌝ }
     {
         let ok = self.sound();
+        self.report_given(ok, reason, used)
+    }
+
+    // The same, where it is known whether the state is sound.
+    pub(crate) fn report_given(mut self, ok: bool, reason: u64, used: u64) -> Answered
+        requires { ⌜ ok ≡ sound self ⌝ }
+        ensures { λ r. ⌜ replyOf r ≡ step (report reason used) self ⌝ }
+    {
         let running = self.running;
         let at = (running % Self::THREADS) as usize;
         let thread = self.threads[at];
