@@ -5,14 +5,8 @@
 //! It ends with status 101 and the seed, round and call at the first difference from the model, and by a signal, with
 //! the same line, at the first touch of memory that was not lent. With ROUND it makes that round alone.
 
-#[path = "../tests/hostile/attack.rs"]
-mod attack;
-#[path = "../tests/hostile/faults.rs"]
-mod faults;
-#[path = "../tests/hostile/guard.rs"]
-mod guard;
-
-use attack::{Attack, FUNCTIONS, ORIGINS};
+use fuzz::attack::{Attack, FUNCTIONS, ORIGINS};
+use fuzz::faults;
 use std::time::{Duration, Instant, SystemTime};
 
 const USAGE: &str = "usage: hostile [SECONDS] [SEED] [ROUND], whole numbers";

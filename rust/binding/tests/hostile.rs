@@ -1,16 +1,10 @@
 //! A hostile host: arbitrary bytes and arguments to every exported function, compared with the model,
 //! and lent memory against pages that nobody may touch.
 
-#[path = "hostile/attack.rs"]
-mod attack;
-#[path = "hostile/faults.rs"]
-mod faults;
-#[path = "hostile/guard.rs"]
-mod guard;
-
-use attack::{Attack, CALLS, FUNCTIONS, ORIGINS};
 use binding::raw;
-use guard::{Guarded, Side};
+use fuzz::attack::{Attack, CALLS, FUNCTIONS, ORIGINS};
+use fuzz::faults;
+use fuzz::guard::{Guarded, Side};
 use std::os::unix::process::ExitStatusExt;
 use std::process::Command;
 
@@ -65,7 +59,7 @@ const TOUCHES: [(&str, bool); 10] = [
 ];
 
 fn touch(name: &str) {
-    let mut page = Guarded::new();
+    let mut page = Guarded::mapped();
     // From its second byte on an empty block 0 but for the last byte, which is read if the one before it is right.
     let mut block = [0; 512];
     block[511] = 1;

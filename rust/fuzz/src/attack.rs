@@ -3,8 +3,8 @@
 //! A round takes a state and makes some calls on it, each on the state that the call before it handed
 //! back. Everything in a round follows from the seed and the round's number.
 
-use super::faults;
-use super::guard::{Guarded, Side};
+use crate::faults;
+use crate::guard::{Guarded, Side};
 use binding::raw::{self, Entry, Found, Lag, Mapped, Record, Records, Reply, Share, Total};
 use compare::{to_library, to_library_record, to_model, to_model_entry, to_model_record, ZEROS};
 use model::blocks::{check, read_block, write_block, BLOCK};
@@ -67,7 +67,7 @@ pub struct Attack {
 impl Attack {
     pub fn new(seed: u64) -> Attack {
         Attack {
-            page: Guarded::new(),
+            page: Guarded::mapped(),
             seed,
             round: 0,
             call: 0,

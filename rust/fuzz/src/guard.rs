@@ -43,7 +43,7 @@ pub struct Guarded {
 }
 
 impl Guarded {
-    pub fn new() -> Guarded {
+    pub fn mapped() -> Guarded {
         // SAFETY: a new mapping of three pages at no given place, of which the middle one is opened.
         unsafe {
             let flags = MAP_PRIVATE | MAP_ANONYMOUS;
@@ -112,7 +112,7 @@ impl Guarded {
 
 impl Drop for Guarded {
     fn drop(&mut self) {
-        // SAFETY: the three pages of `new`.
+        // SAFETY: the three pages of `mapped`.
         unsafe { munmap(self.page.sub(PAGE).cast(), 3 * PAGE) };
     }
 }
