@@ -12,7 +12,8 @@ use scheduler::Scheduler;
 use scheduler::groups;
 use scheduler::priority;
 
-// answer: 0 accepted, or the refusal. thread (64: idle), slice and before are 0 except for an accepted dispatch.
+// What a call answers, with the state after it. answer: 0 accepted, or the refusal. thread (64: idle), slice and before are 0 except for
+// an accepted dispatch.
 #[repr(C)]
 pub struct Reply {
     pub answer: u32,
@@ -22,14 +23,14 @@ pub struct Reply {
     pub state: Scheduler,
 }
 
-// answer: 0, or the refusal; the reservation is then 0.
+// The reservation of a priority. answer: 0, or the refusal; the reservation is then 0.
 #[repr(C)]
 pub struct Mapped {
     pub answer: u32,
     pub reservation: u32,
 }
 
-// answer: 0, or the refusal; the sum is then 0.
+// The reservations of a group's subtree. answer: 0, or the refusal; the sum is then 0.
 #[repr(C)]
 pub struct Total {
     pub answer: u32,
@@ -96,7 +97,9 @@ fn handed(done: Answered) -> Reply
     }
 }
 
-// A fresh scheduler with these settings: no threads, group 0 open. Refused: 1, a setting outside its range; the state is then all zeros.
+// A fresh scheduler: no threads, group 0 open with ceiling 1000, the meter 0. `thousandth` is m, the ticks per thousandth of the virtual
+// time quantum, and `interval` is P, the preemption interval in ticks. Refused: 1, m is outside 1 to 1000 or P outside 1 to 1000000. The
+// state is then all zeros, on which every call answers 16. It takes no state, so that any other is unchanged.
 #[no_mangle]
 pub extern "C" fn mtr_start(thousandth: u64, interval: u64) -> Reply
     ensures { λ r. ⌜ r ≡ replyOut (startReply thousandth interval) ⌝ }
@@ -104,7 +107,9 @@ pub extern "C" fn mtr_start(thousandth: u64, interval: u64) -> Reply
     handed(Scheduler::start(thousandth, interval))
 }
 
-// Opens a group below a parent. Refused: 16, 2, 3, 4, 5; the state is then unchanged.
+// Opens a group below an open parent of a lower number, with a ceiling in thousandths. Refused: 16, the state is not sound; 2, the parent
+// is above 15 or not open; 3, the number is above 15, already open or not above the parent's; 4, the ceiling is outside 1 to 1000; 5, the
+// ceiling exceeds what the parent has free. The state is then unchanged. Accepted, only the group's entry changes.
 #[no_mangle]
 pub extern "C" fn mtr_open(state: Scheduler, number: u64, parent: u64, ceiling: u64) -> Reply
     ensures { λ r. ⌜ r ≡ replyOut (step (openGroup number parent ceiling) state) ⌝ }
@@ -112,7 +117,8 @@ pub extern "C" fn mtr_open(state: Scheduler, number: u64, parent: u64, ceiling: 
     handed(state.open(number, parent, ceiling))
 }
 
-// Closes a group that has no thread and no child. Refused: 16, 2, 6; the state is then unchanged.
+// Closes a group that has no thread and no child. Refused: 16, the state is not sound; 2, the number is 0, above 15 or not open; 6, the
+// group has a thread or a child. The state is then unchanged. Accepted, only the group's entry changes.
 #[no_mangle]
 pub extern "C" fn mtr_close(state: Scheduler, number: u64) -> Reply
     ensures { λ r. ⌜ r ≡ replyOut (step (closeGroup number) state) ⌝ }
@@ -120,7 +126,10 @@ pub extern "C" fn mtr_close(state: Scheduler, number: u64) -> Reply
     handed(state.close(number))
 }
 
-// Admits a thread to a group with a reservation. Refused: 16, 7, 8, 2, 4, 5; the state is then unchanged.
+// Admits a thread to a group with a reservation in thousandths: runnable, with a full allotment, at the rear of the list. Refused: 16, the
+// state is not sound; 7, the number is above 63; 8, the thread is already admitted; 2, the group is above 15 or not open; 4, the
+// reservation is outside 1 to 1000; 5, the reservation exceeds what the group has free. The state is then unchanged. Accepted, every other
+// thread is unchanged, and so are the groups.
 #[no_mangle]
 pub extern "C" fn mtr_admit(state: Scheduler, number: u64, group: u64, reservation: u64) -> Reply
     ensures { λ r. ⌜ r ≡ replyOut (step (admit number group reservation) state) ⌝ }
@@ -128,7 +137,9 @@ pub extern "C" fn mtr_admit(state: Scheduler, number: u64, group: u64, reservati
     handed(state.admit(number, group, reservation))
 }
 
-// Removes a thread that does not run. Refused: 16, 7, 9; the state is then unchanged.
+// Removes a thread that does not run: takes it off the list and frees its number and reservation. Refused: 16, the state is not sound; 7,
+// the number is above 63 or not admitted; 9, the thread is running. The state is then unchanged. Accepted, every other thread and the
+// others' mutual order are unchanged, and so are the groups.
 #[no_mangle]
 pub extern "C" fn mtr_remove(state: Scheduler, number: u64) -> Reply
     ensures { λ r. ⌜ r ≡ replyOut (step (remove number) state) ⌝ }
@@ -136,7 +147,8 @@ pub extern "C" fn mtr_remove(state: Scheduler, number: u64) -> Reply
     handed(state.remove(number))
 }
 
-// Makes a blocked thread runnable. Refused: 16, 7, 10; the state is then unchanged.
+// Makes a blocked thread runnable. Refused: 16, the state is not sound; 7, the number is above 63 or not admitted; 10, the thread is not
+// blocked. The state is then unchanged. Accepted, the list, the thread's allotment and every other thread are unchanged.
 #[no_mangle]
 pub extern "C" fn mtr_wake(state: Scheduler, number: u64) -> Reply
     ensures { λ r. ⌜ r ≡ replyOut (step (wake number) state) ⌝ }
@@ -144,7 +156,10 @@ pub extern "C" fn mtr_wake(state: Scheduler, number: u64) -> Reply
     handed(state.wake(number))
 }
 
-// Takes the first runnable thread of the list, or is idle. Refused: 16, 12, 15; the state is then unchanged.
+// Takes the first runnable thread of the list to run for its slice, the smaller of its allotment and P. Answers the thread, the slice and
+// how many threads, all blocked, stood before it; or idle, thread 64 with slice 0 and the length of the list, if no thread is runnable.
+// Refused: 16, the state is not sound; 12, a thread is running; 15, the meter is at least 10000000000000. The state is then unchanged.
+// Accepted, only the number of the running thread changes, and nothing if idle.
 #[no_mangle]
 pub extern "C" fn mtr_dispatch(state: Scheduler) -> Reply
     ensures { λ r. ⌜ r ≡ replyOut (step dispatch state) ⌝ }
@@ -152,8 +167,11 @@ pub extern "C" fn mtr_dispatch(state: Scheduler) -> Reply
     handed(state.dispatch())
 }
 
-// Charges the running thread the ticks used and ends its run. Reasons: 0 tick, 1 block, 2 yield, 3 exit. Refused: 16, 11, 14, 13; the
-// state is then unchanged.
+// Charges the running thread the ticks used and ends its run. An allotment that reaches 0 is made full and the thread moves to the rear.
+// Reasons: 0 tick, the thread stays runnable; 1 block; 2 yield, which fills the allotment and moves to the rear; 3 exit, which frees the
+// thread's number and reservation. Refused: 16, the state is not sound; 11, nothing is running; 14, the reason is above 3; 13, more is used
+// than the slice. The state is then unchanged. Accepted, every other thread and the others' mutual order are unchanged, and so are the
+// groups.
 #[no_mangle]
 pub extern "C" fn mtr_report(state: Scheduler, reason: u64, used: u64) -> Reply
     ensures { λ r. ⌜ r ≡ replyOut (step (report reason used) state) ⌝ }
@@ -161,7 +179,7 @@ pub extern "C" fn mtr_report(state: Scheduler, reason: u64, used: u64) -> Reply
     handed(state.report(reason, used))
 }
 
-// 1 if the state is sound, else 0.
+// Answers 1 if the state is sound, else 0. Refused: nothing. The state is unchanged.
 #[no_mangle]
 pub extern "C" fn mtr_sound(state: Scheduler) -> u32
     ensures { λ r. ⌜ r ≡ flagOut (sound state) ⌝ }
@@ -169,7 +187,8 @@ pub extern "C" fn mtr_sound(state: Scheduler) -> u32
     if state.sound() { 1 } else { 0 }
 }
 
-// The reservation of a priority. Refused: 4, outside 1 to 10.
+// The reservation of a priority: the priority plus 10. Refused: 4, the priority is outside 1 to 10. It takes no state, so that
+// any is unchanged.
 #[no_mangle]
 pub extern "C" fn mtr_priority(priority: u64) -> Mapped
     ensures { λ r. ⌜ r ≡ mappedOut (mapped priority) ⌝ }
@@ -187,7 +206,8 @@ pub extern "C" fn mtr_priority(priority: u64) -> Mapped
     }
 }
 
-// The reservations in a group and in every group below it. Refused: 16; 2, the group is above 15 or not open.
+// The reservations in a group and in every group below it, in thousandths. Refused: 16, the state is not sound; 2, the group is above 15 or
+// not open. The state is unchanged.
 #[no_mangle]
 pub extern "C" fn mtr_subtree(state: Scheduler, group: u64) -> Total
     ensures { λ r. ⌜ r ≡ totalOut (subtreeReply state group) ⌝ }

@@ -9,20 +9,22 @@ ghost use Rattle.accounts.specs.Figures.{lagReply, shareReply};
 ghost use Rattle.accounts.specs.Roster.{rosterRefusal, tableOf};
 ghost use Rattle.abi.specs.Figures.{lagFigure, shareFigure};
 
-// answer: 0, or the refusal, with a lag of 0.
+// A thread's lag. answer: 0, or the refusal, with a lag of 0.
 #[repr(C)]
 pub struct LagLine {
     pub answer: u32,
     pub lag: i64,
 }
 
-// answer: 0, or the refusal, with a share of 0.
+// A thread's achieved share. answer: 0, or the refusal, with a share of 0.
 #[repr(C)]
 pub struct ShareLine {
     pub answer: u32,
     pub share: u32,
 }
 
+// A thread's lag: its reservation times the meter's growth since its anchor, less 1000 times its own ticks since; 0 while it is blocked.
+// Refused: 16, the state is not sound; 7, the number is above 63 or not admitted. The state is unchanged.
 #[no_mangle]
 pub extern "C" fn mtr_lag(state: Scheduler, number: u64) -> LagLine
     ensures { λ r. ⌜ lagFigure r ≡ lagReply state number ⌝ }
@@ -33,6 +35,8 @@ pub extern "C" fn mtr_lag(state: Scheduler, number: u64) -> LagLine
     }
 }
 
+// A thread's achieved share: its ticks since admission in thousandths of the meter's growth since then, rounded down; 0 if it has not grown.
+// Refused: 16, the state is not sound; 7, the number is above 63 or not admitted. The state is unchanged.
 #[no_mangle]
 pub extern "C" fn mtr_share(state: Scheduler, number: u64) -> ShareLine
     ensures { λ r. ⌜ shareFigure r ≡ shareReply state number ⌝ }
@@ -49,7 +53,9 @@ pub extern "C" fn mtr_share(state: Scheduler, number: u64) -> ShareLine
     }
 }
 
-// The table is `table_len` records from `table` on.
+// Fills a lent table with the record of every admitted thread, largest lag first, equal lags by lower number. Refused: 16, the state is not
+// sound; 17, the table is shorter than the number of threads. The table is then unchanged. Accepted, the records past the last are
+// unchanged. The state is unchanged.
 #[no_mangle]
 pub extern "C" fn mtr_roster(state: Scheduler, table: &mut [Entry]) -> u32
     ensures { λ r. ⌜ (r ≡ rosterRefusal state (length (now (table .entry)))) × (now (table .exit) ≡ tableOf state (now (table .entry))) ⌝ }

@@ -2,6 +2,7 @@
 
 use std::hint::black_box;
 
+use binding::numbers;
 use compare::{to_library, to_library_record};
 use model::rule::{Scheduler, BLOCK, EXIT, TICK, YIELD};
 
@@ -72,7 +73,7 @@ fn on(
     threads: u64,
     deep: bool,
     name: &str,
-    call: impl Fn(binding::Scheduler) -> u32 + 'static,
+    call: impl Fn(numbers::Scheduler) -> u32 + 'static,
 ) -> Case {
     let state = to_library(&s);
     let tree = if deep { "16 groups" } else { "1 group" };
@@ -84,10 +85,10 @@ fn on(
 fn cases(call: &str) -> Vec<Case> {
     match call {
         "start" => vec![case("-".into(), "the defaults".into(), || {
-            binding::start(black_box(100), black_box(20_000)).answer
+            numbers::start(black_box(100), black_box(20_000)).answer
         })],
         "priority" => vec![case("-".into(), "normal".into(), || {
-            binding::priority(black_box(5)).answer
+            numbers::priority(black_box(5)).answer
         })],
         "write_block" => blocks(true),
         "read_block" => blocks(false),
@@ -119,7 +120,7 @@ fn open(n: u64, deep: bool, cases: &mut Vec<Case>) {
     let parent = if deep { 14 } else { 0 };
     let s = above_groups(n, parent);
     cases.push(on(s, n, deep, "the last group", move |s| {
-        binding::open(s, 15, parent, 1).answer
+        numbers::open(s, 15, parent, 1).answer
     }));
 }
 
@@ -127,7 +128,7 @@ fn close(n: u64, deep: bool, cases: &mut Vec<Case>) {
     let number = if deep { 15 } else { 1 };
     let s = above_groups(n, number);
     cases.push(on(s, n, deep, "the last group", move |s| {
-        binding::close(s, number).answer
+        numbers::close(s, number).answer
     }));
 }
 
@@ -140,7 +141,7 @@ fn admit(n: u64, deep: bool, cases: &mut Vec<Case>) {
     assert_eq!(s.remove(n - 1), 0);
     let group = if deep && n > 1 { 15 } else { 0 };
     cases.push(on(s, n, deep, "the last", move |s| {
-        binding::admit(s, n - 1, group, reservation(n)).answer
+        numbers::admit(s, n - 1, group, reservation(n)).answer
     }));
 }
 
@@ -150,7 +151,7 @@ fn remove(n: u64, deep: bool, cases: &mut Vec<Case>) {
     }
     for (name, number) in [("front", 0), ("rear", n - 1)] {
         cases.push(on(threads(n, deep), n, deep, name, move |s| {
-            binding::remove(s, number).answer
+            numbers::remove(s, number).answer
         }));
     }
 }
@@ -163,7 +164,7 @@ fn wake(n: u64, deep: bool, cases: &mut Vec<Case>) {
     block_first(&mut s, n);
     for (name, number) in [("front", 0), ("rear", n - 1)] {
         cases.push(on(s, n, deep, name, move |s| {
-            binding::wake(s, number).answer
+            numbers::wake(s, number).answer
         }));
     }
 }
@@ -172,18 +173,18 @@ fn dispatch(n: u64, deep: bool, cases: &mut Vec<Case>) {
     let mut s = threads(n, deep);
     if n > 0 {
         cases.push(on(s, n, deep, "first runnable", |s| {
-            binding::dispatch(s).answer
+            numbers::dispatch(s).answer
         }));
     }
     if n > 1 {
         block_first(&mut s, n - 1);
         cases.push(on(s, n, deep, "last runnable", |s| {
-            binding::dispatch(s).answer
+            numbers::dispatch(s).answer
         }));
     }
     let mut s = threads(n, deep);
     block_first(&mut s, n);
-    cases.push(on(s, n, deep, "idle", |s| binding::dispatch(s).answer));
+    cases.push(on(s, n, deep, "idle", |s| numbers::dispatch(s).answer));
 }
 
 fn report(n: u64, deep: bool, cases: &mut Vec<Case>) {
@@ -208,7 +209,7 @@ fn report(n: u64, deep: bool, cases: &mut Vec<Case>) {
         ] {
             let name = format!("{name} of the {place}");
             cases.push(on(s, n, deep, &name, move |s| {
-                binding::report(s, reason, used).answer
+                numbers::report(s, reason, used).answer
             }));
         }
         if n == 1 {
@@ -219,7 +220,7 @@ fn report(n: u64, deep: bool, cases: &mut Vec<Case>) {
 
 fn sound(n: u64, deep: bool, cases: &mut Vec<Case>) {
     cases.push(on(threads(n, deep), n, deep, "all tested", |s| {
-        !binding::sound(s) as u32
+        !numbers::sound(s) as u32
     }));
 }
 
@@ -227,7 +228,7 @@ fn subtree(n: u64, deep: bool, cases: &mut Vec<Case>) {
     for group in if deep { vec![0, 15] } else { vec![0] } {
         let name = format!("group {group}");
         cases.push(on(threads(n, deep), n, deep, &name, move |s| {
-            binding::subtree(s, group).answer
+            numbers::subtree(s, group).answer
         }));
     }
 }
@@ -238,9 +239,9 @@ fn account(n: u64, deep: bool, lag: bool, cases: &mut Vec<Case>) {
     }
     let call = move |s| {
         if lag {
-            binding::lag(s, n - 1).answer as u32
+            numbers::lag(s, n - 1).answer as u32
         } else {
-            binding::share(s, n - 1).answer
+            numbers::share(s, n - 1).answer
         }
     };
     cases.push(on(worn(n, deep), n, deep, "after some runs", call));
@@ -250,7 +251,7 @@ fn account(n: u64, deep: bool, lag: bool, cases: &mut Vec<Case>) {
 }
 
 fn roster(n: u64, deep: bool, cases: &mut Vec<Case>) {
-    let call = |s| binding::roster(s, black_box(&mut [binding::Entry::default(); 64]));
+    let call = |s| numbers::roster(s, black_box(&mut [numbers::Entry::default(); 64]));
     cases.push(on(worn(n, deep), n, deep, "after some runs", call));
     cases.push(on(threads(n, deep), n, deep, "equal lags", call));
     cases.push(on(sloped(n, deep, true), n, deep, "falling lags", call));
@@ -261,7 +262,7 @@ fn blocks(write: bool) -> Vec<Case> {
     let records = records();
     let mut cases = Vec::new();
     for count in [0, 1, 31] {
-        let list: Vec<binding::Record> = records[..count].iter().map(to_library_record).collect();
+        let list: Vec<numbers::Record> = records[..count].iter().map(to_library_record).collect();
         let mut block = [0; 512];
         assert_eq!(
             model::blocks::write_block(&mut block, 7, &records[..count]),
@@ -269,9 +270,9 @@ fn blocks(write: bool) -> Vec<Case> {
         );
         cases.push(case("-".into(), format!("{count} records"), move || {
             if write {
-                binding::write_block(black_box(&mut [1; 512]), 7, black_box(&list))
+                numbers::write_block(black_box(&mut [1; 512]), 7, black_box(&list))
             } else {
-                binding::read_block(black_box(&block), 7).answer
+                numbers::read_block(black_box(&block), 7).answer
             }
         }));
     }

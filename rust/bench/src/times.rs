@@ -7,7 +7,7 @@
 use std::hint::black_box;
 use std::time::{Duration, Instant};
 
-use binding::raw;
+use binding::{numbers, raw};
 use compare::{to_library, to_library_record};
 use model::accounts::Entry;
 use model::blocks::{decode, write_block, Record, BLOCK as BLOCK_BYTES, RECORDS};
@@ -96,7 +96,7 @@ fn line(name: &str, threads: &str, sides: Vec<Side>, bars: [Option<f64>; 2]) {
 /// The three sides of a row of calls, each on a state of its own.
 fn sides<'a>(
     s: &Scheduler,
-    mut library: impl FnMut(&mut binding::Scheduler) + 'a,
+    mut library: impl FnMut(&mut numbers::Scheduler) + 'a,
     mut in_place: impl FnMut(&mut Scheduler) + 'a,
     mut value: impl FnMut(&mut Scheduler) + 'a,
 ) -> Vec<Side<'a>> {
@@ -114,9 +114,9 @@ fn dispatch_report(n: u64) {
     let sides = sides(
         &threads(n, false),
         |s| {
-            let reply = binding::dispatch(*s);
+            let reply = numbers::dispatch(*s);
             let used = reply.slice as u64;
-            *s = binding::report(reply.state, TICK, used).state;
+            *s = numbers::report(reply.state, TICK, used).state;
         },
         |s| {
             let reply = s.dispatch();
@@ -143,7 +143,7 @@ fn wake(n: u64) {
         &threads(n, false),
         move |s| {
             s.threads[k].status = BLOCKED;
-            *s = binding::wake(*s, number).state;
+            *s = numbers::wake(*s, number).state;
         },
         move |s| {
             s.threads[k].status = BLOCKED;
@@ -162,10 +162,10 @@ fn dispatch_block_wake(n: u64) {
     let sides = sides(
         &threads(n, false),
         |s| {
-            let reply = binding::dispatch(*s);
+            let reply = numbers::dispatch(*s);
             let thread = reply.thread as u64;
-            let reply = binding::report(reply.state, BLOCK, 1);
-            *s = binding::wake(reply.state, thread).state;
+            let reply = numbers::report(reply.state, BLOCK, 1);
+            *s = numbers::wake(reply.state, thread).state;
         },
         |s| {
             let thread = s.dispatch().thread as u64;
@@ -190,8 +190,8 @@ fn admit_remove(n: u64) {
     let sides = sides(
         &s,
         move |s| {
-            let reply = binding::admit(*s, number, 0, amount);
-            *s = binding::remove(reply.state, number).state;
+            let reply = numbers::admit(*s, number, 0, amount);
+            *s = numbers::remove(reply.state, number).state;
         },
         move |s| {
             s.admit(number, 0, amount);
@@ -214,7 +214,7 @@ fn soundness(n: u64) {
     let sides = sides(
         &threads(n, false),
         |s| {
-            black_box(binding::sound(*s));
+            black_box(numbers::sound(*s));
         },
         |s| {
             black_box(s.sound());
@@ -228,11 +228,11 @@ fn soundness(n: u64) {
 
 fn roster(name: &str, s: Scheduler, bar: Option<f64>) {
     let state = to_library(&s);
-    let mut table = [binding::Entry::default(); 64];
+    let mut table = [numbers::Entry::default(); 64];
     let mut own = [Entry::default(); 64];
     let sides: Vec<Side> = vec![
         Box::new(|| {
-            binding::roster(*black_box(&state), black_box(&mut table));
+            numbers::roster(*black_box(&state), black_box(&mut table));
         }),
         Box::new(|| {
             black_box(&s).roster(black_box(&mut own));
@@ -246,7 +246,7 @@ fn roster(name: &str, s: Scheduler, bar: Option<f64>) {
 fn blocks() {
     let records = records();
     let list = records.map(|record| to_library_record(&record));
-    let array = binding::Records { records: list };
+    let array = numbers::Records { records: list };
     let mut area = [0u8; BLOCK_BYTES];
     let mut own = area;
     let sides: Vec<Side> = vec![
@@ -271,7 +271,7 @@ fn blocks() {
 
     let sides: Vec<Side> = vec![
         Box::new(|| {
-            binding::write_block(black_box(&mut area), 7, black_box(&list));
+            numbers::write_block(black_box(&mut area), 7, black_box(&list));
         }),
         Box::new(|| {
             write_block(black_box(&mut own), 7, black_box(&records));
@@ -283,7 +283,7 @@ fn blocks() {
     let block = own;
     let sides: Vec<Side> = vec![
         Box::new(|| {
-            black_box(&binding::read_block(black_box(&block), 7));
+            black_box(&numbers::read_block(black_box(&block), 7));
         }),
         Box::new(|| {
             let mut found = [Record::default(); RECORDS];

@@ -1,170 +1,46 @@
-//! The scheduler's calls as safe functions.
+//! The move-to-rear list scheduler for Rust hosts.
 //!
-//! The state is handed over by value and comes back with the answer, after a
-//! refusal too, unchanged. Answers are the paper's numbers, 0 accepted.
-//! [`raw`] declares the library's functions themselves.
+//! [`Scheduler`] is the scheduler as a value with methods, [`blocks`] its event
+//! journal. Errors are [`Refusal`]s, by name and by number. Nothing here
+//! panics, allocates or needs the standard library, and the library behind it
+//! is proved: every call returns, and a refused one changes nothing.
+//!
+//! ```
+//! use binding::{Dispatch, Reason, Refusal, Scheduler, Settings};
+//!
+//! # fn run(_thread: u8, slice: u32) -> (Reason, u32) { (Reason::Tick, slice) }
+//! let mut scheduler = Scheduler::new(Settings::default())?;
+//! scheduler.open(1, 0, 300)?;
+//! scheduler.admit(0, 0, 500)?;
+//! scheduler.admit(1, 1, 100)?;
+//! for _ in 0..8 {
+//!     match scheduler.dispatch()? {
+//!         Dispatch::Run { thread, slice, .. } => {
+//!             let (reason, used) = run(thread, slice);
+//!             scheduler.report(reason, used)?;
+//!         }
+//!         Dispatch::Idle { .. } => break,
+//!     }
+//! }
+//! assert_eq!(scheduler.meter(), 120_000);
+//! assert_eq!(scheduler.share(0)?, 833);
+//! # Ok::<(), Refusal>(())
+//! ```
+//!
+//! Below the types, [`numbers`] has the same functions on numbers, and [`raw`]
+//! the declarations that are generated from the library's sources.
 
-#![deny(unsafe_op_in_unsafe_fn)]
+#![no_std]
+#![deny(unsafe_code)]
 
+pub mod blocks;
+#[allow(unsafe_code)]
+pub mod numbers;
+#[allow(unsafe_code)]
 pub mod raw;
+mod refusal;
+mod scheduler;
 
-pub use raw::{
-    Entry, Found, Group, Lag, Mapped, Record, Records, Reply, Scheduler, Settings, Share, Thread,
-    Total,
-};
-
-/// A fresh state with m and P. Refused, the state is all zeros.
-#[inline]
-pub fn start(thousandth: u64, interval: u64) -> Reply {
-    raw::mtr_start(thousandth, interval)
-}
-
-#[inline]
-pub fn open(state: Scheduler, number: u64, parent: u64, ceiling: u64) -> Reply {
-    raw::mtr_open(state, number, parent, ceiling)
-}
-
-#[inline]
-pub fn close(state: Scheduler, number: u64) -> Reply {
-    raw::mtr_close(state, number)
-}
-
-#[inline]
-pub fn admit(state: Scheduler, number: u64, group: u64, reservation: u64) -> Reply {
-    raw::mtr_admit(state, number, group, reservation)
-}
-
-#[inline]
-pub fn remove(state: Scheduler, number: u64) -> Reply {
-    raw::mtr_remove(state, number)
-}
-
-#[inline]
-pub fn wake(state: Scheduler, number: u64) -> Reply {
-    raw::mtr_wake(state, number)
-}
-
-#[inline]
-pub fn dispatch(state: Scheduler) -> Reply {
-    raw::mtr_dispatch(state)
-}
-
-#[inline]
-pub fn report(state: Scheduler, reason: u64, used: u64) -> Reply {
-    raw::mtr_report(state, reason, used)
-}
-
-/// The state is sound.
-#[inline]
-pub fn sound(state: Scheduler) -> bool {
-    raw::mtr_sound(state) == 1
-}
-
-/// Reservation of a priority of 1 to 10.
-#[inline]
-pub fn priority(priority: u64) -> Mapped {
-    raw::mtr_priority(priority)
-}
-
-/// Reservations in a group and in the groups below it.
-#[inline]
-pub fn subtree(state: Scheduler, group: u64) -> Total {
-    raw::mtr_subtree(state, group)
-}
-
-#[inline]
-pub fn lag(state: Scheduler, number: u64) -> Lag {
-    raw::mtr_lag(state, number)
-}
-
-#[inline]
-pub fn share(state: Scheduler, number: u64) -> Share {
-    raw::mtr_share(state, number)
-}
-
-/// Fills the table with the admitted threads, largest lag first, and answers 0,
-/// 16 or 17. Entries past the last keep their contents.
-#[inline]
-pub fn roster(state: Scheduler, table: &mut [Entry]) -> u32 {
-    // SAFETY: pointer and length are those of the slice, lent to the call alone.
-    unsafe { raw::mtr_roster(state, table.as_mut_ptr(), table.len()) }
-}
-
-/// Writes a block and answers 0, 17 or 19. Refused, the area keeps its
-/// contents.
-#[inline]
-pub fn write_block(area: &mut [u8], block: u32, records: &[Record]) -> u32 {
-    // Of more than 31 the first 31 go along; the count alone is refused.
-    let mut list = Records::default();
-    let kept = records.len().min(raw::RECORDS);
-    list.records[..kept].copy_from_slice(&records[..kept]);
-    // SAFETY: pointer and length are those of the slice, lent to the call alone.
-    unsafe { raw::mtr_write_block(area.as_mut_ptr(), area.len(), block, list, records.len()) }
-}
-
-/// The records of the block of the expected number, or 17, 18, 19.
-#[inline]
-pub fn read_block(area: &[u8], block: u32) -> Found {
-    // SAFETY: pointer and length are those of the slice, lent to the call.
-    unsafe { raw::mtr_read_block(area.as_ptr(), area.len(), block) }
-}
-
-impl Reply {
-    /// The state after an accepted call, or the refusal.
-    pub fn result(self) -> Result<Scheduler, u32> {
-        match self.answer {
-            0 => Ok(self.state),
-            refusal => Err(refusal),
-        }
-    }
-}
-
-impl Mapped {
-    /// The reservation, or the refusal.
-    pub fn result(self) -> Result<u32, u32> {
-        match self.answer {
-            0 => Ok(self.reservation),
-            refusal => Err(refusal),
-        }
-    }
-}
-
-impl Total {
-    /// The thousandths, or the refusal.
-    pub fn result(self) -> Result<u32, u32> {
-        match self.answer {
-            0 => Ok(self.thousandths),
-            refusal => Err(refusal),
-        }
-    }
-}
-
-impl Lag {
-    /// The lag, or the refusal.
-    pub fn result(self) -> Result<i64, u32> {
-        match self.answer {
-            0 => Ok(self.lag),
-            refusal => Err(refusal),
-        }
-    }
-}
-
-impl Share {
-    /// The share in thousandths, or the refusal.
-    pub fn result(self) -> Result<u32, u32> {
-        match self.answer {
-            0 => Ok(self.share),
-            refusal => Err(refusal),
-        }
-    }
-}
-
-impl Found {
-    /// The records of an accepted block, or the refusal.
-    pub fn result(&self) -> Result<&[Record], u32> {
-        match self.answer {
-            0 => Ok(&self.records[..self.count as usize]),
-            refusal => Err(refusal),
-        }
-    }
-}
+pub use blocks::Event;
+pub use refusal::Refusal;
+pub use scheduler::{reservation_of, Dispatch, Entry, Reason, Scheduler, Settings, ThreadState};

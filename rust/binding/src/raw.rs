@@ -1,70 +1,245 @@
 //! The boundary as it is exported: structs of numbers and functions of the C
 //! calling convention.
+//!
+//! Written from the Rattle sources; do not edit. To renew it:
+//!
+//! ```text
+//! cargo run --release --manifest-path rust/Cargo.toml -p boundary
+//! ```
 
 use core::mem::{align_of, offset_of, size_of};
 
-/// Number of thread entries.
+const _: () = assert!(size_of::<usize>() == 8);
+
+// Numbers of threads and groups, and the parts of a block.
+
+/// Most threads; their numbers begin at 0.
 pub const THREADS: usize = 64;
-/// Number of group entries.
+/// Most groups; their numbers begin at 0.
 pub const GROUPS: usize = 16;
-/// Most records of a block.
+/// Bytes of an event block.
+pub const BLOCK_BYTES: usize = 512;
+/// Most records of an event block.
 pub const RECORDS: usize = 31;
 
-#[repr(C)]
-#[derive(Clone, Copy, Debug, PartialEq, Eq)]
-pub struct Settings {
-    /// m: ticks per thousandth of the virtual time quantum.
-    pub thousandth: u32,
-    /// P: the preemption interval in ticks.
-    pub interval: u32,
-}
+// Limits and defaults.
 
+/// The thread of an idle dispatch, and the running one if none runs.
+pub const NO_THREAD: u32 = 64;
+/// The whole core in thousandths: the greatest ceiling and reservation.
+pub const WHOLE: u32 = 1000;
+/// m by default.
+pub const DEFAULT_THOUSANDTH: u32 = 100;
+/// P by default.
+pub const DEFAULT_INTERVAL: u32 = 20000;
+/// The greatest m.
+pub const MOST_THOUSANDTH: u32 = 1000;
+/// The greatest P.
+pub const MOST_INTERVAL: u32 = 1000000;
+
+// Limits of the meter and of priorities.
+
+/// From this meter on a dispatch is refused.
+pub const METER_LIMIT: u64 = 10000000000000;
+/// The greatest meter of a sound state.
+pub const METER_MOST: u64 = 10000001000000;
+/// The lowest priority.
+pub const LOWEST_PRIORITY: u64 = 1;
+/// The highest priority.
+pub const HIGHEST_PRIORITY: u64 = 10;
+
+// Answers: 0, or why a call is refused.
+
+/// The call is accepted.
+pub const ACCEPTED: u32 = 0;
+/// m or P is outside its range.
+pub const REFUSED_SETTINGS: u32 = 1;
+/// The group or parent is above 15 or not open, or group 0 is to be closed.
+pub const REFUSED_NO_GROUP: u32 = 2;
+/// The group's number is above 15, already open or not above the parent's.
+pub const REFUSED_GROUP_NUMBER: u32 = 3;
+/// The ceiling, reservation or priority is outside its range.
+pub const REFUSED_AMOUNT: u32 = 4;
+/// The ceiling or reservation exceeds what the group has free.
+pub const REFUSED_NO_ROOM: u32 = 5;
+/// The group has a thread or a child.
+pub const REFUSED_GROUP_IN_USE: u32 = 6;
+/// The thread's number is above 63 or not admitted.
+pub const REFUSED_NO_THREAD: u32 = 7;
+/// The thread is already admitted.
+pub const REFUSED_ALREADY_ADMITTED: u32 = 8;
+/// The thread to remove is running.
+pub const REFUSED_THREAD_RUNNING: u32 = 9;
+/// The thread to wake is not blocked.
+pub const REFUSED_NOT_BLOCKED: u32 = 10;
+/// Nothing is running.
+pub const REFUSED_NOTHING_RUNNING: u32 = 11;
+/// A thread is running.
+pub const REFUSED_BUSY: u32 = 12;
+/// More is used than the slice.
+pub const REFUSED_OVER_SLICE: u32 = 13;
+/// The reason is above 3.
+pub const REFUSED_REASON: u32 = 14;
+/// The meter is at its limit.
+pub const REFUSED_METER_FULL: u32 = 15;
+/// The state is not sound.
+pub const REFUSED_UNSOUND: u32 = 16;
+/// The area is not 512 bytes, or the table is too short.
+pub const REFUSED_LENGTH: u32 = 17;
+/// The check of the block is wrong.
+pub const REFUSED_CHECK: u32 = 18;
+/// The block or a record has not the form that is asked for.
+pub const REFUSED_FORM: u32 = 19;
+/// Only in what mtrrun prints: a record after a refused block and before the
+/// next accepted start.
+pub const REFUSED_NOT_STARTED: u32 = 20;
+
+// Reasons of a report.
+
+/// The thread stays runnable.
+pub const REASON_TICK: u64 = 0;
+/// It blocks until it is woken.
+pub const REASON_BLOCK: u64 = 1;
+/// Its allotment is filled and it moves to the rear.
+pub const REASON_YIELD: u64 = 2;
+/// It leaves the list and frees its number.
+pub const REASON_EXIT: u64 = 3;
+
+// Status of a thread's entry in the state.
+
+/// The number is not admitted.
+pub const STATUS_FREE: u8 = 0;
+/// Runnable or running.
+pub const STATUS_RUNNABLE: u8 = 1;
+/// Blocked.
+pub const STATUS_BLOCKED: u8 = 2;
+
+// State of a thread in the roster.
+
+/// Runnable.
+pub const STATE_RUNNABLE: u32 = 0;
+/// Blocked.
+pub const STATE_BLOCKED: u32 = 1;
+/// Running.
+pub const STATE_RUNNING: u32 = 2;
+
+// Whether a group's entry in the state is open.
+
+/// Closed.
+pub const GROUP_CLOSED: u8 = 0;
+/// Open.
+pub const GROUP_OPEN: u8 = 1;
+
+// Kinds of records, and the fields that each uses; the others are 0.
+
+/// Open a group: subject, group is the parent, amount the ceiling.
+pub const KIND_OPEN: u8 = 1;
+/// Close a group: subject.
+pub const KIND_CLOSE: u8 = 2;
+/// Admit a thread: subject, group, amount is the reservation.
+pub const KIND_ADMIT: u8 = 3;
+/// Remove a thread: subject.
+pub const KIND_REMOVE: u8 = 4;
+/// Wake a thread: subject.
+pub const KIND_WAKE: u8 = 5;
+/// Dispatch.
+pub const KIND_DISPATCH: u8 = 6;
+/// Report: reason, ticks.
+pub const KIND_REPORT: u8 = 7;
+/// Start: amount is m, ticks is P.
+pub const KIND_START: u8 = 8;
+
+/// A thread. status: 0 free, 1 runnable, 2 blocked. admission and anchor are
+/// the meter at admission and at the anchor; ticks and since are the thread's
+/// ticks since each.
 #[repr(C)]
-#[derive(Clone, Copy, Debug, PartialEq, Eq)]
+#[derive(Clone, Copy, Debug, PartialEq, Eq, Default)]
 pub struct Thread {
-    /// Meter at admission.
     pub admission: u64,
-    /// Meter at the anchor.
     pub anchor: u64,
-    /// Ticks since admission.
     pub ticks: u64,
-    /// Ticks since the anchor.
     pub since: u64,
-    /// Ticks left of the quantum.
     pub allotment: u32,
-    /// Thousandths reserved.
     pub reservation: u16,
     pub group: u8,
-    /// 0 free, 1 runnable, 2 blocked.
     pub status: u8,
 }
 
+const _: () = {
+    assert!(size_of::<Thread>() == 40);
+    assert!(align_of::<Thread>() == 8);
+    assert!(offset_of!(Thread, admission) == 0);
+    assert!(offset_of!(Thread, anchor) == 8);
+    assert!(offset_of!(Thread, ticks) == 16);
+    assert!(offset_of!(Thread, since) == 24);
+    assert!(offset_of!(Thread, allotment) == 32);
+    assert!(offset_of!(Thread, reservation) == 36);
+    assert!(offset_of!(Thread, group) == 38);
+    assert!(offset_of!(Thread, status) == 39);
+};
+
+/// A group. opened: 0 closed, 1 open.
 #[repr(C)]
-#[derive(Clone, Copy, Debug, PartialEq, Eq)]
+#[derive(Clone, Copy, Debug, PartialEq, Eq, Default)]
 pub struct Group {
     pub ceiling: u16,
     pub parent: u8,
-    /// 0 closed, 1 open.
     pub opened: u8,
 }
 
+const _: () = {
+    assert!(size_of::<Group>() == 4);
+    assert!(align_of::<Group>() == 2);
+    assert!(offset_of!(Group, ceiling) == 0);
+    assert!(offset_of!(Group, parent) == 2);
+    assert!(offset_of!(Group, opened) == 3);
+};
+
+/// The settings: m, the ticks per thousandth of the virtual time quantum, and
+/// P, the preemption interval in ticks.
+#[repr(C)]
+#[derive(Clone, Copy, Debug, PartialEq, Eq)]
+pub struct Settings {
+    pub thousandth: u32,
+    pub interval: u32,
+}
+
+const _: () = {
+    assert!(size_of::<Settings>() == 8);
+    assert!(align_of::<Settings>() == 4);
+    assert!(offset_of!(Settings, thousandth) == 0);
+    assert!(offset_of!(Settings, interval) == 4);
+};
+
+/// The list is the first `count` entries of `order`, front first. running: the
+/// running thread's number, or 64.
 #[repr(C)]
 #[derive(Clone, Copy, Debug, PartialEq, Eq)]
 pub struct Scheduler {
-    pub threads: [Thread; THREADS],
-    /// The list is the first `count` entries, front first.
-    pub order: [u8; THREADS],
-    pub groups: [Group; GROUPS],
-    /// Ticks of all accepted reports since the start.
+    pub threads: [Thread; 64],
+    pub order: [u8; 64],
+    pub groups: [Group; 16],
     pub meter: u64,
     pub settings: Settings,
     pub count: u32,
-    /// Number of the running thread, 64 for none.
     pub running: u32,
 }
 
-/// Answer of a call and the state after it. `thread`, `slice` and `before` are
-/// 0 but for an accepted dispatch; idle has thread 64.
+const _: () = {
+    assert!(size_of::<Scheduler>() == 2712);
+    assert!(align_of::<Scheduler>() == 8);
+    assert!(offset_of!(Scheduler, threads) == 0);
+    assert!(offset_of!(Scheduler, order) == 2560);
+    assert!(offset_of!(Scheduler, groups) == 2624);
+    assert!(offset_of!(Scheduler, meter) == 2688);
+    assert!(offset_of!(Scheduler, settings) == 2696);
+    assert!(offset_of!(Scheduler, count) == 2704);
+    assert!(offset_of!(Scheduler, running) == 2708);
+};
+
+/// What a call answers, with the state after it. answer: 0 accepted, or the
+/// refusal. thread (64: idle), slice and before are 0 except for an accepted
+/// dispatch.
 #[repr(C)]
 #[derive(Clone, Copy, Debug, PartialEq, Eq)]
 pub struct Reply {
@@ -75,47 +250,100 @@ pub struct Reply {
     pub state: Scheduler,
 }
 
+const _: () = {
+    assert!(size_of::<Reply>() == 2728);
+    assert!(align_of::<Reply>() == 8);
+    assert!(offset_of!(Reply, answer) == 0);
+    assert!(offset_of!(Reply, thread) == 4);
+    assert!(offset_of!(Reply, slice) == 8);
+    assert!(offset_of!(Reply, before) == 12);
+    assert!(offset_of!(Reply, state) == 16);
+};
+
+/// The reservation of a priority. answer: 0, or the refusal; the reservation is
+/// then 0.
 #[repr(C)]
-#[derive(Clone, Copy, Debug, PartialEq, Eq)]
+#[derive(Clone, Copy, Debug, PartialEq, Eq, Default)]
 pub struct Mapped {
     pub answer: u32,
     pub reservation: u32,
 }
 
+const _: () = {
+    assert!(size_of::<Mapped>() == 8);
+    assert!(align_of::<Mapped>() == 4);
+    assert!(offset_of!(Mapped, answer) == 0);
+    assert!(offset_of!(Mapped, reservation) == 4);
+};
+
+/// The reservations of a group's subtree. answer: 0, or the refusal; the sum is
+/// then 0.
 #[repr(C)]
-#[derive(Clone, Copy, Debug, PartialEq, Eq)]
+#[derive(Clone, Copy, Debug, PartialEq, Eq, Default)]
 pub struct Total {
     pub answer: u32,
     pub thousandths: u32,
 }
 
+const _: () = {
+    assert!(size_of::<Total>() == 8);
+    assert!(align_of::<Total>() == 4);
+    assert!(offset_of!(Total, answer) == 0);
+    assert!(offset_of!(Total, thousandths) == 4);
+};
+
+/// A thread's lag. answer: 0, or the refusal, with a lag of 0.
 #[repr(C)]
-#[derive(Clone, Copy, Debug, PartialEq, Eq)]
-pub struct Lag {
+#[derive(Clone, Copy, Debug, PartialEq, Eq, Default)]
+pub struct LagLine {
     pub answer: u32,
     pub lag: i64,
 }
 
+const _: () = {
+    assert!(size_of::<LagLine>() == 16);
+    assert!(align_of::<LagLine>() == 8);
+    assert!(offset_of!(LagLine, answer) == 0);
+    assert!(offset_of!(LagLine, lag) == 8);
+};
+
+/// A thread's achieved share. answer: 0, or the refusal, with a share of 0.
 #[repr(C)]
-#[derive(Clone, Copy, Debug, PartialEq, Eq)]
-pub struct Share {
+#[derive(Clone, Copy, Debug, PartialEq, Eq, Default)]
+pub struct ShareLine {
     pub answer: u32,
     pub share: u32,
 }
 
-/// One thread record of the roster.
+const _: () = {
+    assert!(size_of::<ShareLine>() == 8);
+    assert!(align_of::<ShareLine>() == 4);
+    assert!(offset_of!(ShareLine, answer) == 0);
+    assert!(offset_of!(ShareLine, share) == 4);
+};
+
+/// A record of the roster. state: 0 runnable, 1 blocked, 2 running.
 #[repr(C)]
 #[derive(Clone, Copy, Debug, PartialEq, Eq, Default)]
 pub struct Entry {
     pub number: u32,
-    /// 0 runnable, 1 blocked, 2 running.
     pub state: u32,
     pub allotment: u32,
     pub share: u32,
     pub lag: i64,
 }
 
-/// One record of an event block.
+const _: () = {
+    assert!(size_of::<Entry>() == 24);
+    assert!(align_of::<Entry>() == 8);
+    assert!(offset_of!(Entry, number) == 0);
+    assert!(offset_of!(Entry, state) == 4);
+    assert!(offset_of!(Entry, allotment) == 8);
+    assert!(offset_of!(Entry, share) == 12);
+    assert!(offset_of!(Entry, lag) == 16);
+};
+
+/// A record as numbers. Not every value has a form in a block: see has_form.
 #[repr(C)]
 #[derive(Clone, Copy, Debug, PartialEq, Eq, Default)]
 pub struct Record {
@@ -127,75 +355,251 @@ pub struct Record {
     pub ticks: u32,
 }
 
+const _: () = {
+    assert!(size_of::<Record>() == 12);
+    assert!(align_of::<Record>() == 4);
+    assert!(offset_of!(Record, kind) == 0);
+    assert!(offset_of!(Record, subject) == 1);
+    assert!(offset_of!(Record, group) == 2);
+    assert!(offset_of!(Record, reason) == 3);
+    assert!(offset_of!(Record, amount) == 4);
+    assert!(offset_of!(Record, ticks) == 8);
+};
+
+/// The records for a block. How many of them are written is told beside it.
 #[repr(C)]
 #[derive(Clone, Copy, Debug, PartialEq, Eq, Default)]
 pub struct Records {
-    pub records: [Record; RECORDS],
+    pub records: [Record; 31],
 }
 
+const _: () = {
+    assert!(size_of::<Records>() == 372);
+    assert!(align_of::<Records>() == 4);
+    assert!(offset_of!(Records, records) == 0);
+};
+
+/// What reading finds. answer: 0, or the refusal. records: the block's, and
+/// blank ones past the last of `count`.
 #[repr(C)]
 #[derive(Clone, Copy, Debug, PartialEq, Eq, Default)]
 pub struct Found {
     pub answer: u32,
     pub count: u32,
-    pub records: [Record; RECORDS],
+    pub records: [Record; 31],
 }
 
-/// Asserts a struct's size, alignment and offsets.
-macro_rules! layout {
-    ($name:ident: $size:literal / $align:literal, $($field:ident @ $offset:literal),+) => {
-        const _: () = {
-            assert!(size_of::<$name>() == $size);
-            assert!(align_of::<$name>() == $align);
-            $(assert!(offset_of!($name, $field) == $offset);)+
-        };
-    };
-}
-
-layout!(Settings: 8 / 4, thousandth @ 0, interval @ 4);
-layout!(Thread: 40 / 8, admission @ 0, anchor @ 8, ticks @ 16, since @ 24, allotment @ 32,
-    reservation @ 36, group @ 38, status @ 39);
-layout!(Group: 4 / 2, ceiling @ 0, parent @ 2, opened @ 3);
-layout!(Scheduler: 2712 / 8, threads @ 0, order @ 2560, groups @ 2624, meter @ 2688,
-    settings @ 2696, count @ 2704, running @ 2708);
-layout!(Reply: 2728 / 8, answer @ 0, thread @ 4, slice @ 8, before @ 12, state @ 16);
-layout!(Mapped: 8 / 4, answer @ 0, reservation @ 4);
-layout!(Total: 8 / 4, answer @ 0, thousandths @ 4);
-layout!(Lag: 16 / 8, answer @ 0, lag @ 8);
-layout!(Share: 8 / 4, answer @ 0, share @ 4);
-layout!(Entry: 24 / 8, number @ 0, state @ 4, allotment @ 8, share @ 12, lag @ 16);
-layout!(Record: 12 / 4, kind @ 0, subject @ 1, group @ 2, reason @ 3, amount @ 4, ticks @ 8);
-layout!(Records: 372 / 4, records @ 0);
-layout!(Found: 380 / 4, answer @ 0, count @ 4, records @ 8);
+const _: () = {
+    assert!(size_of::<Found>() == 380);
+    assert!(align_of::<Found>() == 4);
+    assert!(offset_of!(Found, answer) == 0);
+    assert!(offset_of!(Found, count) == 4);
+    assert!(offset_of!(Found, records) == 8);
+};
 
 // SAFETY: these are the library's exported functions. Those that take numbers
-// alone accept every bit pattern and touch no memory of the caller's, so they
-// are safe to call.
+// and structs of numbers alone accept every bit pattern and touch no memory of
+// the caller's, so they are safe to call.
 unsafe extern "C" {
+    /// A fresh scheduler: no threads, group 0 open with ceiling 1000, the meter
+    /// 0. `thousandth` is m, the ticks per thousandth of the virtual time
+    /// quantum, and `interval` is P, the preemption interval in ticks.
+    ///
+    /// Refuses, the first that applies:
+    /// - 1 [`REFUSED_SETTINGS`]: m is outside 1 to 1000 or P outside 1 to
+    ///   1000000
+    ///
+    /// The state is then all zeros, on which every call answers 16. It takes no
+    /// state, so that any other is unchanged.
     pub safe fn mtr_start(thousandth: u64, interval: u64) -> Reply;
-    pub safe fn mtr_open(state: Scheduler, number: u64, parent: u64, ceiling: u64) -> Reply;
-    pub safe fn mtr_close(state: Scheduler, number: u64) -> Reply;
-    pub safe fn mtr_admit(state: Scheduler, number: u64, group: u64, reservation: u64) -> Reply;
-    pub safe fn mtr_remove(state: Scheduler, number: u64) -> Reply;
-    pub safe fn mtr_wake(state: Scheduler, number: u64) -> Reply;
-    pub safe fn mtr_dispatch(state: Scheduler) -> Reply;
-    pub safe fn mtr_report(state: Scheduler, reason: u64, used: u64) -> Reply;
-    pub safe fn mtr_sound(state: Scheduler) -> u32;
-    pub safe fn mtr_priority(priority: u64) -> Mapped;
-    pub safe fn mtr_subtree(state: Scheduler, group: u64) -> Total;
-    pub safe fn mtr_lag(state: Scheduler, number: u64) -> Lag;
-    pub safe fn mtr_share(state: Scheduler, number: u64) -> Share;
 
-    /// `table` is valid for reads and writes of `length` entries.
-    pub unsafe fn mtr_roster(state: Scheduler, table: *mut Entry, length: usize) -> u32;
-    /// `area` is valid for reads and writes of `length` bytes.
+    /// Opens a group below an open parent of a lower number, with a ceiling in
+    /// thousandths.
+    ///
+    /// Refuses, the first that applies:
+    /// - 16 [`REFUSED_UNSOUND`]: the state is not sound
+    /// - 2 [`REFUSED_NO_GROUP`]: the parent is above 15 or not open
+    /// - 3 [`REFUSED_GROUP_NUMBER`]: the number is above 15, already open or
+    ///   not above the parent's
+    /// - 4 [`REFUSED_AMOUNT`]: the ceiling is outside 1 to 1000
+    /// - 5 [`REFUSED_NO_ROOM`]: the ceiling exceeds what the parent has free
+    ///
+    /// The state is then unchanged. Accepted, only the group's entry changes.
+    pub safe fn mtr_open(state: Scheduler, number: u64, parent: u64, ceiling: u64) -> Reply;
+
+    /// Closes a group that has no thread and no child.
+    ///
+    /// Refuses, the first that applies:
+    /// - 16 [`REFUSED_UNSOUND`]: the state is not sound
+    /// - 2 [`REFUSED_NO_GROUP`]: the number is 0, above 15 or not open
+    /// - 6 [`REFUSED_GROUP_IN_USE`]: the group has a thread or a child
+    ///
+    /// The state is then unchanged. Accepted, only the group's entry changes.
+    pub safe fn mtr_close(state: Scheduler, number: u64) -> Reply;
+
+    /// Admits a thread to a group with a reservation in thousandths: runnable,
+    /// with a full allotment, at the rear of the list.
+    ///
+    /// Refuses, the first that applies:
+    /// - 16 [`REFUSED_UNSOUND`]: the state is not sound
+    /// - 7 [`REFUSED_NO_THREAD`]: the number is above 63
+    /// - 8 [`REFUSED_ALREADY_ADMITTED`]: the thread is already admitted
+    /// - 2 [`REFUSED_NO_GROUP`]: the group is above 15 or not open
+    /// - 4 [`REFUSED_AMOUNT`]: the reservation is outside 1 to 1000
+    /// - 5 [`REFUSED_NO_ROOM`]: the reservation exceeds what the group has free
+    ///
+    /// The state is then unchanged. Accepted, every other thread is unchanged,
+    /// and so are the groups.
+    pub safe fn mtr_admit(state: Scheduler, number: u64, group: u64, reservation: u64) -> Reply;
+
+    /// Removes a thread that does not run: takes it off the list and frees its
+    /// number and reservation.
+    ///
+    /// Refuses, the first that applies:
+    /// - 16 [`REFUSED_UNSOUND`]: the state is not sound
+    /// - 7 [`REFUSED_NO_THREAD`]: the number is above 63 or not admitted
+    /// - 9 [`REFUSED_THREAD_RUNNING`]: the thread is running
+    ///
+    /// The state is then unchanged. Accepted, every other thread and the
+    /// others' mutual order are unchanged, and so are the groups.
+    pub safe fn mtr_remove(state: Scheduler, number: u64) -> Reply;
+
+    /// Makes a blocked thread runnable.
+    ///
+    /// Refuses, the first that applies:
+    /// - 16 [`REFUSED_UNSOUND`]: the state is not sound
+    /// - 7 [`REFUSED_NO_THREAD`]: the number is above 63 or not admitted
+    /// - 10 [`REFUSED_NOT_BLOCKED`]: the thread is not blocked
+    ///
+    /// The state is then unchanged. Accepted, the list, the thread's allotment
+    /// and every other thread are unchanged.
+    pub safe fn mtr_wake(state: Scheduler, number: u64) -> Reply;
+
+    /// Takes the first runnable thread of the list to run for its slice, the
+    /// smaller of its allotment and P. Answers the thread, the slice and how
+    /// many threads, all blocked, stood before it; or idle, thread 64 with
+    /// slice 0 and the length of the list, if no thread is runnable.
+    ///
+    /// Refuses, the first that applies:
+    /// - 16 [`REFUSED_UNSOUND`]: the state is not sound
+    /// - 12 [`REFUSED_BUSY`]: a thread is running
+    /// - 15 [`REFUSED_METER_FULL`]: the meter is at least 10000000000000
+    ///
+    /// The state is then unchanged. Accepted, only the number of the running
+    /// thread changes, and nothing if idle.
+    pub safe fn mtr_dispatch(state: Scheduler) -> Reply;
+
+    /// Charges the running thread the ticks used and ends its run. An allotment
+    /// that reaches 0 is made full and the thread moves to the rear. Reasons: 0
+    /// tick, the thread stays runnable; 1 block; 2 yield, which fills the
+    /// allotment and moves to the rear; 3 exit, which frees the thread's number
+    /// and reservation.
+    ///
+    /// Refuses, the first that applies:
+    /// - 16 [`REFUSED_UNSOUND`]: the state is not sound
+    /// - 11 [`REFUSED_NOTHING_RUNNING`]: nothing is running
+    /// - 14 [`REFUSED_REASON`]: the reason is above 3
+    /// - 13 [`REFUSED_OVER_SLICE`]: more is used than the slice
+    ///
+    /// The state is then unchanged. Accepted, every other thread and the
+    /// others' mutual order are unchanged, and so are the groups.
+    pub safe fn mtr_report(state: Scheduler, reason: u64, used: u64) -> Reply;
+
+    /// Answers 1 if the state is sound, else 0.
+    ///
+    /// Refuses nothing.
+    ///
+    /// The state is unchanged.
+    pub safe fn mtr_sound(state: Scheduler) -> u32;
+
+    /// The reservation of a priority: the priority plus 10.
+    ///
+    /// Refuses, the first that applies:
+    /// - 4 [`REFUSED_AMOUNT`]: the priority is outside 1 to 10
+    ///
+    /// It takes no state, so that any is unchanged.
+    pub safe fn mtr_priority(priority: u64) -> Mapped;
+
+    /// The reservations in a group and in every group below it, in thousandths.
+    ///
+    /// Refuses, the first that applies:
+    /// - 16 [`REFUSED_UNSOUND`]: the state is not sound
+    /// - 2 [`REFUSED_NO_GROUP`]: the group is above 15 or not open
+    ///
+    /// The state is unchanged.
+    pub safe fn mtr_subtree(state: Scheduler, group: u64) -> Total;
+
+    /// A thread's lag: its reservation times the meter's growth since its
+    /// anchor, less 1000 times its own ticks since; 0 while it is blocked.
+    ///
+    /// Refuses, the first that applies:
+    /// - 16 [`REFUSED_UNSOUND`]: the state is not sound
+    /// - 7 [`REFUSED_NO_THREAD`]: the number is above 63 or not admitted
+    ///
+    /// The state is unchanged.
+    pub safe fn mtr_lag(state: Scheduler, number: u64) -> LagLine;
+
+    /// A thread's achieved share: its ticks since admission in thousandths of
+    /// the meter's growth since then, rounded down; 0 if it has not grown.
+    ///
+    /// Refuses, the first that applies:
+    /// - 16 [`REFUSED_UNSOUND`]: the state is not sound
+    /// - 7 [`REFUSED_NO_THREAD`]: the number is above 63 or not admitted
+    ///
+    /// The state is unchanged.
+    pub safe fn mtr_share(state: Scheduler, number: u64) -> ShareLine;
+
+    /// Fills a lent table with the record of every admitted thread, largest lag
+    /// first, equal lags by lower number.
+    ///
+    /// Refuses, the first that applies:
+    /// - 16 [`REFUSED_UNSOUND`]: the state is not sound
+    /// - 17 [`REFUSED_LENGTH`]: the table is shorter than the number of threads
+    ///
+    /// The table is then unchanged. Accepted, the records past the last are
+    /// unchanged. The state is unchanged.
+    ///
+    /// # Safety
+    ///
+    /// `table` is valid for reads and writes of `table_len` elements, is
+    /// aligned and not null, and nothing else uses them during the call.
+    pub unsafe fn mtr_roster(state: Scheduler, table: *mut Entry, table_len: usize) -> u32;
+
+    /// Writes the block of this number with the first `count` records to a lent
+    /// area.
+    ///
+    /// Refuses, the first that applies:
+    /// - 17 [`REFUSED_LENGTH`]: the area is not 512 bytes
+    /// - 19 [`REFUSED_FORM`]: more than 31 records, or one with no form: an
+    ///   unknown kind, or a field not zero that its kind does not use
+    ///
+    /// The area is then unchanged.
+    ///
+    /// # Safety
+    ///
+    /// `area` is valid for reads and writes of `area_len` elements, is aligned
+    /// and not null, and nothing else uses them during the call.
     pub unsafe fn mtr_write_block(
         area: *mut u8,
-        length: usize,
+        area_len: usize,
         block: u32,
         list: Records,
         count: usize,
     ) -> u32;
-    /// `area` is valid for reads of `length` bytes.
-    pub unsafe fn mtr_read_block(area: *const u8, length: usize, block: u32) -> Found;
+
+    /// Reads the records of the block that is expected to have this number.
+    ///
+    /// Refuses, the first that applies:
+    /// - 17 [`REFUSED_LENGTH`]: the area is not 512 bytes
+    /// - 18 [`REFUSED_CHECK`]: the check is wrong
+    /// - 19 [`REFUSED_FORM`]: the bytes are not those of this block number and
+    ///   0 to 31 well-formed records
+    ///
+    /// The count is then 0 and every record blank. The area is unchanged.
+    ///
+    /// # Safety
+    ///
+    /// `area` is valid for reads of `area_len` elements, is aligned and not
+    /// null, and nothing else uses them during the call.
+    pub unsafe fn mtr_read_block(area: *const u8, area_len: usize, block: u32) -> Found;
 }

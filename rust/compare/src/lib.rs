@@ -6,15 +6,16 @@
 
 #![forbid(unsafe_code)]
 
+use binding::numbers;
 use model::accounts::Entry;
 use model::blocks::Record;
 use model::random::Call;
 use model::rule::{Group, Reply, Scheduler, Settings, Thread};
 
 /// The state as the library takes it.
-pub fn to_library(s: &Scheduler) -> binding::Scheduler {
-    binding::Scheduler {
-        threads: s.threads.map(|t| binding::Thread {
+pub fn to_library(s: &Scheduler) -> numbers::Scheduler {
+    numbers::Scheduler {
+        threads: s.threads.map(|t| numbers::Thread {
             admission: t.admission,
             anchor: t.anchor,
             ticks: t.ticks,
@@ -25,13 +26,13 @@ pub fn to_library(s: &Scheduler) -> binding::Scheduler {
             status: t.status,
         }),
         order: s.order,
-        groups: s.groups.map(|g| binding::Group {
+        groups: s.groups.map(|g| numbers::Group {
             ceiling: g.ceiling,
             parent: g.parent,
             opened: g.opened,
         }),
         meter: s.meter,
-        settings: binding::Settings {
+        settings: numbers::Settings {
             thousandth: s.settings.thousandth,
             interval: s.settings.interval,
         },
@@ -41,7 +42,7 @@ pub fn to_library(s: &Scheduler) -> binding::Scheduler {
 }
 
 /// A state of the library's as the model holds it.
-pub fn to_model(s: &binding::Scheduler) -> Scheduler {
+pub fn to_model(s: &numbers::Scheduler) -> Scheduler {
     Scheduler {
         threads: s.threads.map(|t| Thread {
             admission: t.admission,
@@ -70,8 +71,8 @@ pub fn to_model(s: &binding::Scheduler) -> Scheduler {
 }
 
 /// A record as the library takes it.
-pub fn to_library_record(record: &Record) -> binding::Record {
-    binding::Record {
+pub fn to_library_record(record: &Record) -> numbers::Record {
+    numbers::Record {
         kind: record.kind,
         subject: record.subject,
         group: record.group,
@@ -82,7 +83,7 @@ pub fn to_library_record(record: &Record) -> binding::Record {
 }
 
 /// A record of the library's as the model holds it.
-pub fn to_model_record(record: &binding::Record) -> Record {
+pub fn to_model_record(record: &numbers::Record) -> Record {
     Record {
         kind: record.kind,
         subject: record.subject,
@@ -94,7 +95,7 @@ pub fn to_model_record(record: &binding::Record) -> Record {
 }
 
 /// An entry of the library's roster as the model holds it.
-pub fn to_model_entry(entry: &binding::Entry) -> Entry {
+pub fn to_model_entry(entry: &numbers::Entry) -> Entry {
     Entry {
         number: entry.number,
         state: entry.state,
@@ -126,22 +127,22 @@ pub fn library(s: &Scheduler, call: Call) -> (Reply, Scheduler) {
             number,
             parent,
             ceiling,
-        } => binding::open(state, number, parent, ceiling),
-        Call::Close { number } => binding::close(state, number),
+        } => numbers::open(state, number, parent, ceiling),
+        Call::Close { number } => numbers::close(state, number),
         Call::Admit {
             number,
             group,
             reservation,
-        } => binding::admit(state, number, group, reservation),
-        Call::Remove { number } => binding::remove(state, number),
-        Call::Wake { number } => binding::wake(state, number),
-        Call::Dispatch => binding::dispatch(state),
-        Call::Report { reason, used } => binding::report(state, reason, used),
+        } => numbers::admit(state, number, group, reservation),
+        Call::Remove { number } => numbers::remove(state, number),
+        Call::Wake { number } => numbers::wake(state, number),
+        Call::Dispatch => numbers::dispatch(state),
+        Call::Report { reason, used } => numbers::report(state, reason, used),
     };
     parts(&reply)
 }
 
-fn parts(reply: &binding::Reply) -> (Reply, Scheduler) {
+fn parts(reply: &numbers::Reply) -> (Reply, Scheduler) {
     let numbers = Reply {
         answer: reply.answer,
         thread: reply.thread,
@@ -170,7 +171,7 @@ pub fn both(s: &mut Scheduler, call: Call) -> Reply {
 
 /// Starts both sides. A refused start has a state of zeros.
 pub fn start(m: u64, p: u64) -> Result<Scheduler, u32> {
-    let (reply, state) = parts(&binding::start(m, p));
+    let (reply, state) = parts(&numbers::start(m, p));
     assert_eq!(reply, Reply::plain(reply.answer));
     let wanted = Scheduler::start(m, p);
     match wanted {

@@ -1,12 +1,13 @@
 //! Lag, achieved share and the roster.
 
+use binding::numbers;
 use compare::{both, start, to_library, to_model_entry};
 use model::accounts::Entry;
 use model::random::{call, edge_value, hostile_state, sound_state, Call, Rng};
 use model::rule::{Scheduler, BLOCKED, FREE, METER_LIMIT, METER_MAX};
 
 /// Not an entry that a roster could hold.
-const MARK: binding::Entry = binding::Entry {
+const MARK: numbers::Entry = numbers::Entry {
     number: 77,
     state: 78,
     allotment: 79,
@@ -18,7 +19,7 @@ const MARK: binding::Entry = binding::Entry {
 /// and past the table keep their contents, and a refusal leaves all.
 fn roster(s: &Scheduler, length: usize) -> Result<Vec<Entry>, u32> {
     let mut table = [MARK; 80];
-    let answer = binding::roster(to_library(s), &mut table[..length]);
+    let answer = numbers::roster(to_library(s), &mut table[..length]);
     let mut wanted = vec![to_model_entry(&MARK); length];
     assert_eq!(answer, s.roster(&mut wanted), "table of {length}");
     let filled = if answer == 0 { s.count as usize } else { 0 };
@@ -33,7 +34,7 @@ fn roster(s: &Scheduler, length: usize) -> Result<Vec<Entry>, u32> {
 /// Lag and share of a number on both sides; 0 with a refusal.
 fn lag_and_share(s: &Scheduler, number: u64) -> Result<(i64, u64), u32> {
     let state = to_library(s);
-    let (lag, share) = (binding::lag(state, number), binding::share(state, number));
+    let (lag, share) = (numbers::lag(state, number), numbers::share(state, number));
     let wanted = s.lag(number);
     assert_eq!(lag.result(), wanted, "lag of {number} in {s:?}");
     assert_eq!(lag.lag, wanted.unwrap_or(0));

@@ -1,5 +1,6 @@
 //! Random writes and reads of event blocks.
 
+use binding::numbers;
 use compare::{to_library_record, to_model_record};
 use model::blocks::{check, kind, read_block, write_block, Record, BLOCK, RECORD, RECORDS};
 use model::random::Rng;
@@ -115,8 +116,8 @@ fn records(r: &mut Rng) -> Vec<Record> {
 fn write(area: &mut [u8], number: u32, records: &[Record]) -> u32 {
     let before = area.to_vec();
     let mut wanted = before.clone();
-    let list: Vec<binding::Record> = records.iter().map(to_library_record).collect();
-    let answer = binding::write_block(area, number, &list);
+    let list: Vec<numbers::Record> = records.iter().map(to_library_record).collect();
+    let answer = numbers::write_block(area, number, &list);
     assert_eq!(answer, write_block(&mut wanted, number, records));
     assert!(area == wanted, "block {number} of {records:?}");
     if answer != 0 {
@@ -128,7 +129,7 @@ fn write(area: &mut [u8], number: u32, records: &[Record]) -> u32 {
 /// Reads on both sides. A refused read has no records; past the last record
 /// all are zero.
 fn read(area: &[u8], number: u32) -> Result<Vec<Record>, u32> {
-    let found = binding::read_block(area, number);
+    let found = numbers::read_block(area, number);
     let wanted = read_block(area, number);
     let (answer, list) = match &wanted {
         Ok(list) => (0, &list[..]),
@@ -138,7 +139,7 @@ fn read(area: &[u8], number: u32) -> Result<Vec<Record>, u32> {
     assert_eq!(found.count as usize, list.len());
     let (some, rest) = found.records.split_at(list.len());
     assert!(some.iter().map(to_model_record).eq(list.iter().copied()));
-    assert!(rest.iter().all(|rec| *rec == binding::Record::default()));
+    assert!(rest.iter().all(|rec| *rec == numbers::Record::default()));
     assert_eq!(
         found.result().map(<[_]>::len),
         wanted.as_ref().map(Vec::len).map_err(|&e| e)
@@ -471,7 +472,7 @@ fn records_past_the_count() {
                 }
             })
             .collect();
-        let mut records = binding::Records::default();
+        let mut records = numbers::Records::default();
         for (to, from) in records.records.iter_mut().zip(&list) {
             *to = to_library_record(from);
         }

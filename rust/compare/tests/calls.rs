@@ -1,5 +1,6 @@
 //! A million random calls, the states that no call accepts, and the edges.
 
+use binding::numbers;
 use compare::{both, kind, library, sound, start, to_library, Tally, KINDS};
 use model::accounts::Entry;
 use model::random::{broken_states, call, edge_value, hostile_state, sound_state, Call, Rng};
@@ -157,14 +158,14 @@ fn each_condition_of_soundness_alone() {
             }
             let state = to_library(&s);
             for number in [0, r.below(64), edge_value(&mut r)] {
-                let lag = binding::lag(state, number);
+                let lag = numbers::lag(state, number);
                 assert_eq!((lag.answer, lag.lag), (16, 0), "{name}");
-                let share = binding::share(state, number);
+                let share = numbers::share(state, number);
                 assert_eq!((share.answer, share.share), (16, 0), "{name}");
-                let total = binding::subtree(state, number);
+                let total = numbers::subtree(state, number);
                 assert_eq!((total.answer, total.thousandths), (16, 0), "{name}");
             }
-            let mark = binding::Entry {
+            let mark = numbers::Entry {
                 number: 1,
                 state: 2,
                 allotment: 3,
@@ -173,7 +174,7 @@ fn each_condition_of_soundness_alone() {
             };
             let mut table = [mark; 70];
             let length = r.below(71) as usize;
-            assert_eq!(binding::roster(state, &mut table[..length]), 16, "{name}");
+            assert_eq!(numbers::roster(state, &mut table[..length]), 16, "{name}");
             assert_eq!(table, [mark; 70], "{name}");
             assert_eq!(s.roster(&mut [Entry::default(); 70][..length]), 16);
             names.push(name);
@@ -293,11 +294,11 @@ fn listing() {
     assert_eq!(both(&mut s, Call::Dispatch), dispatched(7, 10_000, 0));
     let state = to_library(&s);
     for (number, share) in [(5, 833), (7, 166)] {
-        assert_eq!(binding::lag(state, number).result(), Ok(-4_000_000));
-        assert_eq!(binding::share(state, number).result(), Ok(share));
+        assert_eq!(numbers::lag(state, number).result(), Ok(-4_000_000));
+        assert_eq!(numbers::share(state, number).result(), Ok(share));
     }
-    let mut table = [binding::Entry::default(); 2];
-    assert_eq!(binding::roster(state, &mut table), 0);
+    let mut table = [numbers::Entry::default(); 2];
+    assert_eq!(numbers::roster(state, &mut table), 0);
     assert_eq!(table.map(|e| (e.number, e.state)), [(5, 0), (7, 2)]);
 }
 
@@ -311,16 +312,16 @@ fn priorities() {
     let mut r = Rng::new(36);
     values.extend((0..10_000).map(|_| edge_value(&mut r)));
     for p in values {
-        let mapped = binding::priority(p);
+        let mapped = numbers::priority(p);
         match priority(p) {
             Ok(f) => assert_eq!((mapped.answer, mapped.reservation), (0, f), "{p}"),
             Err(e) => assert_eq!((mapped.answer, mapped.reservation), (e, 0), "{p}"),
         }
         assert_eq!(mapped.answer == 0, (1..=10).contains(&p));
     }
-    assert_eq!(binding::priority(10).result(), Ok(20));
-    assert_eq!(binding::priority(5).result(), Ok(15));
-    assert_eq!(binding::priority(1).result(), Ok(11));
+    assert_eq!(numbers::priority(10).result(), Ok(20));
+    assert_eq!(numbers::priority(5).result(), Ok(15));
+    assert_eq!(numbers::priority(1).result(), Ok(11));
 }
 
 /// Reservations of the threads whose group, or a group above it, is `group`.
@@ -352,7 +353,7 @@ fn subtree_totals() {
         let mut groups: Vec<u64> = (0..18).collect();
         groups.extend([1 << 32, u64::MAX, edge_value(&mut r)]);
         for g in groups {
-            let total = binding::subtree(state, g);
+            let total = numbers::subtree(state, g);
             let wanted = if !s.sound() {
                 (16, 0)
             } else if !s.is_open(g) {

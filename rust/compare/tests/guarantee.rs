@@ -2,6 +2,7 @@
 
 use std::io::Write;
 
+use binding::numbers;
 use compare::{both, start, to_library};
 use model::random::{call, sound_state, Call, Rng};
 use model::rule::{Reply, Scheduler, BLOCKED, RUNNABLE};
@@ -270,7 +271,7 @@ fn storm(r: &mut Rng, exporter: u64, others: u64, style: u64, nearest: &mut [Nea
         let owed = 500 * work - 1000 * had;
         let (m, p) = (m as i64, p as i64);
         assert!(owed <= 2 * 500 * 500 * m + 500 * p);
-        assert_eq!(binding::lag(to_library(&s), READOUT).result(), Ok(owed));
+        assert_eq!(numbers::lag(to_library(&s), READOUT).result(), Ok(owed));
     }
     assert!(runs > 20 && had > 0, "{runs} runs of the exporter");
     nearest[0].join(&stretches.nearest[0]);

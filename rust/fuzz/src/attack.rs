@@ -5,7 +5,7 @@
 
 use crate::faults;
 use crate::guard::{Guarded, Side};
-use binding::raw::{self, Entry, Found, Lag, Mapped, Record, Records, Reply, Share, Total};
+use binding::raw::{self, Entry, Found, LagLine, Mapped, Record, Records, Reply, ShareLine, Total};
 use compare::{to_library, to_library_record, to_model, to_model_entry, to_model_record, ZEROS};
 use model::blocks::{check, read_block, write_block, BLOCK};
 use model::random::{any_record, apply, edge_value, hostile_state, sound_state, Call, Rng};
@@ -152,7 +152,7 @@ impl Attack {
                     function,
                     format_args!("{number} {state:?}"),
                     found,
-                    Lag { answer, lag },
+                    LagLine { answer, lag },
                 );
                 answer
             }
@@ -160,7 +160,7 @@ impl Attack {
                 let number = argument(r, 63);
                 let found = raw::mtr_share(*state, number);
                 let (answer, share) = split(to_model(state).share(number));
-                let wanted = Share {
+                let wanted = ShareLine {
                     answer,
                     share: share as u32,
                 };

@@ -1,0 +1,174 @@
+//! The Rust declarations, in rustfmt's layout.
+
+use crate::interface::{refusal, Family, Form, Function, Interface, Pass, Struct};
+use crate::{wrapped, COMMAND};
+
+const WIDTH: usize = 80;
+/// The longest line of code.
+const CODE: usize = 100;
+
+/// The module's text.
+pub fn print(interface: &Interface) -> String {
+    let mut out = HEAD.replace("COMMAND", COMMAND);
+    for family in &interface.families {
+        out += &constants(family);
+    }
+    for s in &interface.structs {
+        out += &structure(interface, s);
+    }
+    out += FUNCTIONS;
+    let functions = interface.sections.iter().flat_map(|s| &s.functions);
+    let functions: Vec<String> = functions.map(function).collect();
+    out += &functions.join("\n");
+    out + "}\n"
+}
+
+const HEAD: &str = "\
+//! The boundary as it is exported: structs of numbers and functions of the C
+//! calling convention.
+//!
+//! Written from the Rattle sources; do not edit. To renew it:
+//!
+//! ```text
+//! COMMAND
+//! ```
+
+use core::mem::{align_of, offset_of, size_of};
+
+const _: () = assert!(size_of::<usize>() == 8);
+
+";
+
+const FUNCTIONS: &str = "\
+// SAFETY: these are the library's exported functions. Those that take numbers
+// and structs of numbers alone accept every bit pattern and touch no memory of
+// the caller's, so they are safe to call.
+unsafe extern \"C\" {
+";
+
+fn constants(family: &Family) -> String {
+    let mut out = String::new();
+    for (name, value, doc) in &family.names {
+        out += &docs("", doc);
+        out += &format!("pub const {name}: {} = {value};\n", family.of);
+    }
+    format!("// {}\n\n{out}\n", family.doc)
+}
+
+fn structure(interface: &Interface, s: &Struct) -> String {
+    let name = &s.name;
+    let default = match has_default(interface, s) {
+        true => ", Default",
+        false => "",
+    };
+    let mut out = docs("", &s.doc);
+    out += "#[repr(C)]\n";
+    out += &format!("#[derive(Clone, Copy, Debug, PartialEq, Eq{default})]\n");
+    out += &format!("pub struct {name} {{\n");
+    for field in &s.fields {
+        out += &docs("    ", &field.doc);
+        out += &format!("    pub {}: {},\n", field.name, named(&field.form));
+    }
+    out += "}\n\nconst _: () = {\n";
+    out += &format!("    assert!(size_of::<{name}>() == {});\n", s.size);
+    out += &format!("    assert!(align_of::<{name}>() == {});\n", s.align);
+    for field in &s.fields {
+        let (field, offset) = (&field.name, field.offset);
+        out += &format!("    assert!(offset_of!({name}, {field}) == {offset});\n");
+    }
+    out + "};\n\n"
+}
+
+/// Zeros are a default, and Rust can derive it: for arrays of up to 32.
+fn has_default(interface: &Interface, s: &Struct) -> bool {
+    fn form_has(interface: &Interface, form: &Form) -> bool {
+        match form {
+            Form::Number(_) => true,
+            Form::Array(element, length) => *length <= 32 && form_has(interface, element),
+            Form::Struct(name) => {
+                let mut structs = interface.structs.iter();
+                structs.any(|s| &s.name == name && has_default(interface, s))
+            }
+        }
+    }
+    s.zero && s.fields.iter().all(|f| form_has(interface, &f.form))
+}
+
+fn named(form: &Form) -> String {
+    match form {
+        Form::Number(number) => number.name.to_string(),
+        Form::Struct(name) => name.clone(),
+        Form::Array(element, length) => format!("[{}; {length}]", named(element)),
+    }
+}
+
+fn function(f: &Function) -> String {
+    let mut out = docs("    ", &f.does);
+    out += "    ///\n";
+    if f.refuses.is_empty() {
+        out += &docs("    ", "Refuses nothing.");
+        out += "    ///\n";
+    } else {
+        out += &docs("    ", "Refuses, the first that applies:");
+        for (number, reason) in &f.refuses {
+            let name = refusal(*number).unwrap_or_default();
+            let text = format!("{number} [`{name}`]: {reason}");
+            for (i, line) in wrapped(&text, WIDTH - 10).iter().enumerate() {
+                let indent = if i == 0 { "- " } else { "  " };
+                out += &format!("    /// {indent}{line}\n");
+            }
+        }
+        out += "    ///\n";
+    }
+    out += &docs("    ", &f.leaves);
+    let mut parameters = Vec::new();
+    let mut unsafety = Vec::new();
+    for (name, pass) in &f.parameters {
+        match pass {
+            Pass::Value(form) => parameters.push(format!("{name}: {}", named(form))),
+            Pass::Slice { mutable, element } => {
+                let (pointer, access) = match mutable {
+                    true => ("*mut", "reads and writes"),
+                    false => ("*const", "reads"),
+                };
+                let element = named(element);
+                parameters.push(format!("{name}: {pointer} {element}"));
+                parameters.push(format!("{name}_len: usize"));
+                unsafety.push(format!(
+                    "`{name}` is valid for {access} of `{name}_len` elements, is aligned and not null, and nothing else uses them during the call."
+                ));
+            }
+        }
+    }
+    let safe = if unsafety.is_empty() {
+        "safe"
+    } else {
+        "unsafe"
+    };
+    if !unsafety.is_empty() {
+        out += "    ///\n    /// # Safety\n    ///\n";
+        out += &docs("    ", &unsafety.join(" "));
+    }
+    let result = match &f.result {
+        Some(form) => format!(" -> {}", named(form)),
+        None => String::new(),
+    };
+    let head = format!("    pub {safe} fn {}", f.name);
+    let line = format!("{head}({}){result};", parameters.join(", "));
+    if line.len() <= CODE {
+        return out + &line + "\n";
+    }
+    out += &format!("{head}(\n");
+    for parameter in parameters {
+        out += &format!("        {parameter},\n");
+    }
+    out + &format!("    ){result};\n")
+}
+
+fn docs(indent: &str, text: &str) -> String {
+    let lines = wrapped(text, WIDTH - 4 - indent.len());
+    lines
+        .iter()
+        .map(|line| format!("{indent}/// {line}\n"))
+        .collect()
+}

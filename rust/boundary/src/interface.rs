@@ -1,0 +1,518 @@
+//! The boundary as a whole: every exported function, the structs that they
+//! use with the place of each field, and the constants.
+//!
+//! A number or a struct of numbers passes by value, and a slice as a pointer
+//! and a length. Everything else is refused.
+
+use std::collections::BTreeMap;
+
+use crate::names::{Value, FAMILIES, REFUSED, SECTIONS};
+use crate::parse::{self, parse, File, Length, Path, Type};
+use crate::Error;
+
+/// The text of a source by its path from the repository's root.
+pub type Sources<'a> = dyn Fn(&str) -> Result<String, String> + 'a;
+
+const CRATE: &str = "abi";
+
+#[derive(Clone, Copy, Debug, PartialEq, Eq)]
+pub struct Number {
+    /// Name in Rattle and Rust.
+    pub name: &'static str,
+    /// Name in C.
+    pub c: &'static str,
+    /// Bytes, and the alignment.
+    pub size: u64,
+}
+
+const fn of(name: &'static str, c: &'static str, size: u64) -> Number {
+    Number { name, c, size }
+}
+
+const NUMBERS: [Number; 10] = [
+    of("u8", "uint8_t", 1),
+    of("u16", "uint16_t", 2),
+    of("u32", "uint32_t", 4),
+    of("u64", "uint64_t", 8),
+    of("usize", "size_t", 8),
+    of("i8", "int8_t", 1),
+    of("i16", "int16_t", 2),
+    of("i32", "int32_t", 4),
+    of("i64", "int64_t", 8),
+    of("isize", "ptrdiff_t", 8),
+];
+
+/// A type with a fixed form.
+#[derive(Clone, Debug, PartialEq, Eq)]
+pub enum Form {
+    Number(Number),
+    Struct(String),
+    Array(Box<Form>, u64),
+}
+
+#[derive(Clone, Debug, PartialEq, Eq)]
+pub struct Field {
+    pub doc: String,
+    pub name: String,
+    pub form: Form,
+    pub offset: u64,
+}
+
+#[derive(Clone, Debug, PartialEq, Eq)]
+pub struct Struct {
+    pub doc: String,
+    pub name: String,
+    pub fields: Vec<Field>,
+    pub size: u64,
+    pub align: u64,
+    /// Zeros are a default: the source gives it no values of its own.
+    pub zero: bool,
+}
+
+#[derive(Clone, Debug, PartialEq, Eq)]
+pub enum Pass {
+    Value(Form),
+    /// A pointer and a length; the length's name is the slice's with `_len`.
+    Slice {
+        mutable: bool,
+        element: Form,
+    },
+}
+
+#[derive(Clone, Debug, PartialEq, Eq)]
+pub struct Function {
+    /// What it does.
+    pub does: String,
+    /// Numbers and reasons in the order of the checks.
+    pub refuses: Vec<(u64, String)>,
+    /// What is unchanged, after a refusal and otherwise.
+    pub leaves: String,
+    pub name: String,
+    pub parameters: Vec<(String, Pass)>,
+    pub result: Option<Form>,
+}
+
+/// The functions of a module.
+#[derive(Clone, Debug, PartialEq, Eq)]
+pub struct Section {
+    pub title: &'static str,
+    pub functions: Vec<Function>,
+}
+
+/// Constants that belong together, with their values.
+#[derive(Clone, Debug, PartialEq, Eq)]
+pub struct Family {
+    pub doc: &'static str,
+    pub of: &'static str,
+    pub choice: bool,
+    pub names: Vec<(&'static str, u64, &'static str)>,
+}
+
+#[derive(Clone, Debug, Default, PartialEq, Eq)]
+pub struct Interface {
+    pub families: Vec<Family>,
+    /// A struct stands behind those that it holds.
+    pub structs: Vec<Struct>,
+    pub sections: Vec<Section>,
+}
+
+/// Reads the sources that the exported functions and constants need.
+pub fn resolve(sources: &Sources) -> Result<Interface, Error> {
+    let mut work = Work {
+        sources,
+        files: BTreeMap::new(),
+        homes: BTreeMap::new(),
+        found: Interface::default(),
+    };
+    let root = path_of(CRATE, None);
+    let modules = work.load(&root, &root, 1)?.modules.clone();
+    let mut listed: Vec<&str> = SECTIONS.iter().map(|s| s.0).collect();
+    let mut present: Vec<&str> = modules.iter().map(|m| &m[..]).collect();
+    listed.sort_unstable();
+    present.sort_unstable();
+    if listed != present {
+        let text = format!("the modules are {present:?}, and the sections {listed:?}");
+        return Err(Error::at(&root, 1, text));
+    }
+    for (module, title) in SECTIONS {
+        let file = path_of(CRATE, Some(module));
+        let functions = work.load(&file, &root, 1)?.functions.clone();
+        let functions: Result<_, _> = functions.iter().map(|f| work.function(&file, f)).collect();
+        let functions = functions?;
+        work.found.sections.push(Section { title, functions });
+    }
+    work.distinct()?;
+    for family in FAMILIES {
+        let names: Result<_, _> = family
+            .names
+            .iter()
+            .map(|&(name, value, doc)| Ok((name, work.value(name, value)?, doc)))
+            .collect();
+        work.found.families.push(Family {
+            doc: family.doc,
+            of: family.of,
+            choice: family.choice,
+            names: names?,
+        });
+    }
+    Ok(work.found)
+}
+
+/// The source of a crate's module, or of the crate itself.
+fn path_of(of: &str, module: Option<&str>) -> String {
+    format!("crates/{of}/src/{}.rt", module.unwrap_or("lib"))
+}
+
+struct Work<'a> {
+    sources: &'a Sources<'a>,
+    files: BTreeMap<String, File>,
+    /// The source of each struct that is added.
+    homes: BTreeMap<String, String>,
+    found: Interface,
+}
+
+impl Work<'_> {
+    /// A source, read once. Where it is needed is named if it can't be read.
+    fn load(&mut self, path: &str, needed: &str, line: usize) -> Result<&File, Error> {
+        if !self.files.contains_key(path) {
+            let text = (self.sources)(path)
+                .map_err(|e| Error::at(needed, line, format!("{path} can't be read: {e}")))?;
+            self.files.insert(path.to_string(), parse(path, &text)?);
+        }
+        Ok(&self.files[path])
+    }
+
+    fn function(&mut self, file: &str, f: &parse::Function) -> Result<Function, Error> {
+        let (does, refuses, leaves) = described(file, f)?;
+        let mut parameters = Vec::new();
+        for parameter in &f.parameters {
+            let pass = match &parameter.of {
+                Type::Slice { mutable, element } => Pass::Slice {
+                    mutable: *mutable,
+                    element: self.passed(file, parameter.line, element)?,
+                },
+                other => Pass::Value(self.passed(file, parameter.line, other)?),
+            };
+            parameters.push((parameter.name.clone(), pass));
+        }
+        let result = match &f.result {
+            Some(of) => Some(self.passed(file, f.line, of)?),
+            None => None,
+        };
+        if f.name.strip_prefix("mtr_").is_none_or(str::is_empty) {
+            let text = format!("the name {} does not begin with mtr_", f.name);
+            return Err(Error::at(file, f.line, text));
+        }
+        Ok(Function {
+            does,
+            refuses,
+            leaves,
+            name: f.name.clone(),
+            parameters,
+            result,
+        })
+    }
+
+    /// Functions and structs share their names in C.
+    fn distinct(&self) -> Result<(), Error> {
+        let mut functions = self
+            .files
+            .values()
+            .flat_map(|file| file.functions.iter().map(move |f| (file, f)));
+        let taken = |name: &str| self.found.structs.iter().find(|s| c_name(&s.name) == name);
+        match functions.find_map(|(file, f)| Some((file, f, taken(&f.name)?))) {
+            Some((file, f, of)) => {
+                let text = format!("{} is also the name of the struct {} in C", f.name, of.name);
+                Err(Error::at(&file.name, f.line, text))
+            }
+            None => Ok(()),
+        }
+    }
+
+    /// The form of a type that passes by value or is an element of a slice.
+    fn passed(&mut self, file: &str, line: usize, of: &Type) -> Result<Form, Error> {
+        match self.form(file, line, of)? {
+            Form::Array(..) => {
+                let text = format!("`{}`: an array passes in a struct only", of.shown());
+                Err(Error::at(file, line, text))
+            }
+            form => Ok(form),
+        }
+    }
+
+    fn form(&mut self, file: &str, line: usize, of: &Type) -> Result<Form, Error> {
+        let refused = |why: &str| {
+            let text = format!("`{}` has no fixed form at the boundary: {why}", of.shown());
+            Error::at(file, line, text)
+        };
+        match of {
+            Type::Slice { .. } => Err(refused("a slice is a parameter only")),
+            Type::Other(_) => Err(refused("a number, a struct of numbers or a slice has")),
+            Type::Array(element, length) => {
+                let element = self.form(file, line, element)?;
+                let length = self.length(file, line, length)?;
+                Ok(Form::Array(Box::new(element), length))
+            }
+            Type::Path(path) => {
+                if let [name] = &path[..] {
+                    if let Some(number) = NUMBERS.iter().find(|n| n.name == name) {
+                        return Ok(Form::Number(*number));
+                    }
+                    if name == "bool" {
+                        return Err(refused("a byte other than 0 and 1 is no bool; take u8"));
+                    }
+                }
+                let Some((home, name)) = self.home(file, line, path)? else {
+                    return Err(Error::at(
+                        file,
+                        line,
+                        format!("the type `{}` is unknown", of.shown()),
+                    ));
+                };
+                let there = &self.files[&home];
+                if there.enums.contains(&name) {
+                    return Err(refused("it is an enum; take a struct of numbers"));
+                }
+                let Some(found) = there.structs.iter().find(|s| s.name == name).cloned() else {
+                    return Err(Error::at(
+                        file,
+                        line,
+                        format!("the type `{}` is unknown", of.shown()),
+                    ));
+                };
+                if !(found.fixed && found.public) {
+                    return Err(refused("the struct is not `#[repr(C)] pub`"));
+                }
+                self.structure(&home, &found)?;
+                Ok(Form::Struct(name))
+            }
+        }
+    }
+
+    /// The source that a name in a file stands for, loaded, and the name there.
+    fn home(
+        &mut self,
+        file: &str,
+        line: usize,
+        path: &Path,
+    ) -> Result<Option<(String, String)>, Error> {
+        let here = &self.files[file];
+        let Some((name, before)) = path.split_last() else {
+            return Ok(None);
+        };
+        let Some(first) = before.first() else {
+            let own = here.structs.iter().any(|s| &s.name == name) || here.enums.contains(name);
+            if own {
+                return Ok(Some((file.to_string(), name.clone())));
+            }
+            let import = here
+                .imports
+                .iter()
+                .find(|i| i.len() > 1 && i.last() == Some(name));
+            return match import.cloned() {
+                Some(import) => self.home(file, line, &import),
+                None => Ok(None),
+            };
+        };
+        let own = file.split('/').nth(1).unwrap_or_default().to_string();
+        let module = here
+            .imports
+            .iter()
+            .find(|i| i.len() > 1 && i.last() == Some(first));
+        let before: Vec<String> = match module {
+            Some(import) => import.iter().chain(&before[1..]).cloned().collect(),
+            None => before.to_vec(),
+        };
+        let (of, module) = match &before[..] {
+            [of] => (of, None),
+            [of, module] => (of, Some(&module[..])),
+            _ => return Ok(None),
+        };
+        let of = if of == "crate" { &own } else { of };
+        let home = path_of(of, module);
+        self.load(&home, file, line)?;
+        Ok(Some((home, name.clone())))
+    }
+
+    fn length(&mut self, file: &str, line: usize, length: &Length) -> Result<u64, Error> {
+        let path = match length {
+            Length::Number(value) => return Ok(*value),
+            Length::Constant(path) => path.join("::"),
+        };
+        let here = &self.files[file].constants;
+        match here.iter().find(|c| c.name == path) {
+            Some(constant) => Ok(constant.value),
+            None => Err(Error::at(
+                file,
+                line,
+                format!("the length `{path}` is no number of this file"),
+            )),
+        }
+    }
+
+    /// Adds a struct, and before it those that it holds.
+    fn structure(&mut self, file: &str, s: &parse::Struct) -> Result<(), Error> {
+        match self.homes.get(&s.name) {
+            Some(home) if home == file => return Ok(()),
+            Some(home) => {
+                let text = format!("{home} has a struct `{}` at the boundary too", s.name);
+                return Err(Error::at(file, s.line, text));
+            }
+            None => self.homes.insert(s.name.clone(), file.to_string()),
+        };
+        let mut fields = Vec::new();
+        let (mut at, mut align) = (0u64, 1u64);
+        for field in &s.fields {
+            if !field.public {
+                let text = format!(
+                    "the field `{}` of a struct at the boundary is private",
+                    field.name
+                );
+                return Err(Error::at(file, field.line, text));
+            }
+            let form = self.form(file, field.line, &field.of)?;
+            let (size, own) = self.size_and_align(&form);
+            let offset = at.next_multiple_of(own);
+            at = offset + size;
+            align = align.max(own);
+            fields.push(Field {
+                doc: field.doc.join(" "),
+                name: field.name.clone(),
+                form,
+                offset,
+            });
+        }
+        if at == 0 {
+            return Err(Error::at(
+                file,
+                s.line,
+                format!("the struct `{}` is empty", s.name),
+            ));
+        }
+        let own = format!("{}::", s.name);
+        let constants = &self.files[file].constants;
+        let zero = !constants.iter().any(|c| c.name.starts_with(&own));
+        self.found.structs.push(Struct {
+            doc: s.doc.join(" "),
+            name: s.name.clone(),
+            fields,
+            size: at.next_multiple_of(align),
+            align,
+            zero,
+        });
+        Ok(())
+    }
+
+    fn size_and_align(&self, form: &Form) -> (u64, u64) {
+        match form {
+            Form::Number(number) => (number.size, number.size),
+            Form::Array(element, length) => {
+                let (size, align) = self.size_and_align(element);
+                (size * length, align)
+            }
+            Form::Struct(name) => {
+                let known = self.found.structs.iter().find(|s| &s.name == name);
+                known.map_or((0, 1), |s| (s.size, s.align))
+            }
+        }
+    }
+
+    fn value(&mut self, name: &str, value: Value) -> Result<u64, Error> {
+        let own = "rust/boundary/src/names.rs";
+        match value {
+            Value::Number(value) => Ok(value),
+            Value::Constant { file, name: of } => {
+                let file = self.load(file, own, 1)?;
+                match file.constants.iter().find(|c| c.name == of) {
+                    Some(constant) => Ok(constant.value),
+                    None => {
+                        let text = format!(
+                            "{name} is `{of}` of {}, which has no such number",
+                            file.name
+                        );
+                        Err(Error::at(own, 1, text))
+                    }
+                }
+            }
+            Value::Length { of, field } => {
+                let fields = self
+                    .found
+                    .structs
+                    .iter()
+                    .filter(|s| s.name == of)
+                    .flat_map(|s| &s.fields);
+                let length = fields
+                    .filter(|f| f.name == field)
+                    .find_map(|f| match f.form {
+                        Form::Array(_, length) => Some(length),
+                        _ => None,
+                    });
+                length.ok_or_else(|| {
+                    Error::at(
+                        own,
+                        1,
+                        format!("{name} is the length of {of}.{field}, which is no array"),
+                    )
+                })
+            }
+        }
+    }
+}
+
+/// A function's comment in its three parts: what it does; behind `Refused:`
+/// the refusals, each a number and its reason; what is unchanged.
+#[allow(clippy::type_complexity)]
+fn described(
+    file: &str,
+    f: &parse::Function,
+) -> Result<(String, Vec<(u64, String)>, String), Error> {
+    let error = |text: &str| {
+        let text = format!("the comment on {} {text}", f.name);
+        Error::at(file, f.line, text)
+    };
+    let text = f.doc.join(" ");
+    let Some((does, rest)) = text.split_once(" Refused: ") else {
+        return Err(error("does not say what is refused"));
+    };
+    let Some((list, leaves)) = rest.split_once(". ") else {
+        return Err(error("does not say what is unchanged"));
+    };
+    if !leaves.contains("unchanged") {
+        return Err(error("does not say what is unchanged"));
+    }
+    let mut refuses = Vec::new();
+    for part in list.split("; ").filter(|_| list != "nothing") {
+        let (number, reason) = part.split_once(", ").unwrap_or((part, ""));
+        let number: u64 = number.parse().map_err(|_| {
+            error(&format!(
+                "has `{part}` where a number and a reason should stand"
+            ))
+        })?;
+        if reason.is_empty() {
+            return Err(error(&format!("gives no reason for {number}")));
+        }
+        refusal(number).ok_or_else(|| error(&format!("has the unknown refusal {number}")))?;
+        refuses.push((number, reason.to_string()));
+    }
+    Ok((does.to_string(), refuses, leaves.to_string()))
+}
+
+/// The name of a refusal.
+pub fn refusal(number: u64) -> Option<&'static str> {
+    let names = FAMILIES.iter().flat_map(|f| f.names);
+    let mut refusals = names.filter(|n| n.0.starts_with(REFUSED));
+    let found = refusals.find(|n| matches!(n.1, Value::Number(value) if value == number));
+    found.map(|n| n.0)
+}
+
+/// `LagLine` in C: `mtr_lag_line`.
+pub fn c_name(name: &str) -> String {
+    let mut text = "mtr".to_string();
+    for letter in name.chars() {
+        if letter.is_ascii_uppercase() {
+            text.push('_');
+        }
+        text.push(letter.to_ascii_lowercase());
+    }
+    text
+}

@@ -1,0 +1,274 @@
+//! The constants of the boundary: what they are called outside, and where
+//! their values stand in the sources. What the sources have as bare numbers
+//! (answers, kinds of records, states in the roster) is listed here with its
+//! value; the binding's tests try each of those on the library.
+
+/// Where a value comes from.
+#[derive(Clone, Copy, Debug)]
+pub enum Value {
+    Number(u64),
+    /// A constant of the source.
+    Constant {
+        file: &'static str,
+        name: &'static str,
+    },
+    /// The length of an array in a struct at the boundary.
+    Length {
+        of: &'static str,
+        field: &'static str,
+    },
+}
+
+/// A constant's name without the prefix, its value, and what it is.
+pub type Name = (&'static str, Value, &'static str);
+
+/// Constants that belong together.
+#[derive(Clone, Copy, Debug)]
+pub struct Family {
+    pub doc: &'static str,
+    /// Type in Rust.
+    pub of: &'static str,
+    /// An enum in C; otherwise macros.
+    pub choice: bool,
+    pub names: &'static [Name],
+}
+
+/// The modules of crates/abi in the order in which they are printed, and what
+/// each is about.
+pub const SECTIONS: [(&str, &str); 3] = [
+    ("calls", "The scheduler's calls"),
+    ("roster", "Accounts"),
+    ("blocks", "Event blocks"),
+];
+
+/// The prefix of an answer other than 0.
+pub const REFUSED: &str = "REFUSED_";
+
+const SCHEDULER: &str = "crates/scheduler/src/lib.rt";
+const RUN: &str = "crates/scheduler/src/run.rt";
+const PRIORITY: &str = "crates/scheduler/src/priority.rt";
+const REPLAY: &str = "crates/replay/src/lib.rt";
+
+const fn constant(file: &'static str, name: &'static str) -> Value {
+    Value::Constant { file, name }
+}
+
+const fn number(value: u64) -> Value {
+    Value::Number(value)
+}
+
+pub const FAMILIES: [Family; 9] = [
+    Family {
+        doc: "Numbers of threads and groups, and the parts of a block.",
+        of: "usize",
+        choice: false,
+        names: &[
+            (
+                "THREADS",
+                constant(SCHEDULER, "Scheduler::THREADS"),
+                "Most threads; their numbers begin at 0.",
+            ),
+            (
+                "GROUPS",
+                constant(SCHEDULER, "Scheduler::GROUPS"),
+                "Most groups; their numbers begin at 0.",
+            ),
+            ("BLOCK_BYTES", constant(REPLAY, "BLOCK"), "Bytes of an event block."),
+            (
+                "RECORDS",
+                Value::Length {
+                    of: "Records",
+                    field: "records",
+                },
+                "Most records of an event block.",
+            ),
+        ],
+    },
+    Family {
+        doc: "Limits and defaults.",
+        of: "u32",
+        choice: false,
+        names: &[
+            (
+                "NO_THREAD",
+                constant(SCHEDULER, "Scheduler::THREADS"),
+                "The thread of an idle dispatch, and the running one if none runs.",
+            ),
+            (
+                "WHOLE",
+                constant(SCHEDULER, "Scheduler::WHOLE"),
+                "The whole core in thousandths: the greatest ceiling and reservation.",
+            ),
+            (
+                "DEFAULT_THOUSANDTH",
+                constant(SCHEDULER, "Settings::THOUSANDTH"),
+                "m by default.",
+            ),
+            (
+                "DEFAULT_INTERVAL",
+                constant(SCHEDULER, "Settings::INTERVAL"),
+                "P by default.",
+            ),
+            (
+                "MOST_THOUSANDTH",
+                constant(SCHEDULER, "Settings::THOUSANDTH_MOST"),
+                "The greatest m.",
+            ),
+            (
+                "MOST_INTERVAL",
+                constant(SCHEDULER, "Settings::INTERVAL_MOST"),
+                "The greatest P.",
+            ),
+        ],
+    },
+    Family {
+        doc: "Limits of the meter and of priorities.",
+        of: "u64",
+        choice: false,
+        names: &[
+            (
+                "METER_LIMIT",
+                constant(SCHEDULER, "Scheduler::METER_LIMIT"),
+                "From this meter on a dispatch is refused.",
+            ),
+            (
+                "METER_MOST",
+                constant(SCHEDULER, "Scheduler::METER_MOST"),
+                "The greatest meter of a sound state.",
+            ),
+            ("LOWEST_PRIORITY", constant(PRIORITY, "LOWEST"), "The lowest priority."),
+            ("HIGHEST_PRIORITY", constant(PRIORITY, "HIGHEST"), "The highest priority."),
+        ],
+    },
+    Family {
+        doc: "Answers: 0, or why a call is refused.",
+        of: "u32",
+        choice: true,
+        names: &[
+            ("ACCEPTED", number(0), "The call is accepted."),
+            ("REFUSED_SETTINGS", number(1), "m or P is outside its range."),
+            (
+                "REFUSED_NO_GROUP",
+                number(2),
+                "The group or parent is above 15 or not open, or group 0 is to be closed.",
+            ),
+            (
+                "REFUSED_GROUP_NUMBER",
+                number(3),
+                "The group's number is above 15, already open or not above the parent's.",
+            ),
+            (
+                "REFUSED_AMOUNT",
+                number(4),
+                "The ceiling, reservation or priority is outside its range.",
+            ),
+            (
+                "REFUSED_NO_ROOM",
+                number(5),
+                "The ceiling or reservation exceeds what the group has free.",
+            ),
+            ("REFUSED_GROUP_IN_USE", number(6), "The group has a thread or a child."),
+            (
+                "REFUSED_NO_THREAD",
+                number(7),
+                "The thread's number is above 63 or not admitted.",
+            ),
+            (
+                "REFUSED_ALREADY_ADMITTED",
+                number(8),
+                "The thread is already admitted.",
+            ),
+            ("REFUSED_THREAD_RUNNING", number(9), "The thread to remove is running."),
+            ("REFUSED_NOT_BLOCKED", number(10), "The thread to wake is not blocked."),
+            ("REFUSED_NOTHING_RUNNING", number(11), "Nothing is running."),
+            ("REFUSED_BUSY", number(12), "A thread is running."),
+            ("REFUSED_OVER_SLICE", number(13), "More is used than the slice."),
+            ("REFUSED_REASON", number(14), "The reason is above 3."),
+            ("REFUSED_METER_FULL", number(15), "The meter is at its limit."),
+            ("REFUSED_UNSOUND", number(16), "The state is not sound."),
+            (
+                "REFUSED_LENGTH",
+                number(17),
+                "The area is not 512 bytes, or the table is too short.",
+            ),
+            ("REFUSED_CHECK", number(18), "The check of the block is wrong."),
+            (
+                "REFUSED_FORM",
+                number(19),
+                "The block or a record has not the form that is asked for.",
+            ),
+            (
+                "REFUSED_NOT_STARTED",
+                number(20),
+                "Only in what mtrrun prints: a record after a refused block and before the next accepted start.",
+            ),
+        ],
+    },
+    Family {
+        doc: "Reasons of a report.",
+        of: "u64",
+        choice: true,
+        names: &[
+            ("REASON_TICK", constant(RUN, "TICK"), "The thread stays runnable."),
+            ("REASON_BLOCK", constant(RUN, "BLOCK"), "It blocks until it is woken."),
+            (
+                "REASON_YIELD",
+                constant(RUN, "YIELD"),
+                "Its allotment is filled and it moves to the rear.",
+            ),
+            ("REASON_EXIT", constant(RUN, "EXIT"), "It leaves the list and frees its number."),
+        ],
+    },
+    Family {
+        doc: "Status of a thread's entry in the state.",
+        of: "u8",
+        choice: true,
+        names: &[
+            ("STATUS_FREE", number(0), "The number is not admitted."),
+            ("STATUS_RUNNABLE", constant(RUN, "Thread::RUNNABLE"), "Runnable or running."),
+            ("STATUS_BLOCKED", constant(RUN, "Thread::BLOCKED"), "Blocked."),
+        ],
+    },
+    Family {
+        doc: "State of a thread in the roster.",
+        of: "u32",
+        choice: true,
+        names: &[
+            ("STATE_RUNNABLE", number(0), "Runnable."),
+            ("STATE_BLOCKED", number(1), "Blocked."),
+            ("STATE_RUNNING", number(2), "Running."),
+        ],
+    },
+    Family {
+        doc: "Whether a group's entry in the state is open.",
+        of: "u8",
+        choice: true,
+        names: &[
+            ("GROUP_CLOSED", number(0), "Closed."),
+            ("GROUP_OPEN", number(1), "Open."),
+        ],
+    },
+    Family {
+        doc: "Kinds of records, and the fields that each uses; the others are 0.",
+        of: "u8",
+        choice: true,
+        names: &[
+            (
+                "KIND_OPEN",
+                number(1),
+                "Open a group: subject, group is the parent, amount the ceiling.",
+            ),
+            ("KIND_CLOSE", number(2), "Close a group: subject."),
+            (
+                "KIND_ADMIT",
+                number(3),
+                "Admit a thread: subject, group, amount is the reservation.",
+            ),
+            ("KIND_REMOVE", number(4), "Remove a thread: subject."),
+            ("KIND_WAKE", number(5), "Wake a thread: subject."),
+            ("KIND_DISPATCH", number(6), "Dispatch."),
+            ("KIND_REPORT", number(7), "Report: reason, ticks."),
+            ("KIND_START", number(8), "Start: amount is m, ticks is P."),
+        ],
+    },
+];
