@@ -102,3 +102,18 @@ fn recipes_by_hand() {
         "block 0 19\nblock 1 18\nblock 2 17\n"
     );
 }
+
+/// The part that only the fuzzer's build has compiles, without a warning.
+#[test]
+fn the_fuzzer_compiles() {
+    let done = Command::new(env!("CARGO"))
+        .args(["check", "--quiet", "--offline", "--lib", "-p", "fuzz"])
+        .arg("--manifest-path")
+        .arg(root().join("rust/Cargo.toml"))
+        .env("RUSTFLAGS", "--cfg fuzzing -D warnings")
+        .env("CARGO_TARGET_DIR", env!("CARGO_TARGET_TMPDIR"))
+        .output()
+        .unwrap();
+    let said = String::from_utf8_lossy(&done.stderr);
+    assert!(done.status.success(), "{said}");
+}
