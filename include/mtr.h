@@ -11,7 +11,7 @@
  *     state = reply.state;
  *
  * An answer is MTR_ACCEPTED or one of MTR_REFUSED_*. The library holds no
- * memory of its own, allocates none and calls nothing but memcpy and memset.
+ * memory of its own, allocates none, and of libc calls the mem functions alone.
  * Every value of every argument is allowed, also a state of arbitrary bytes. A
  * pointer is not null and is valid for the length that goes with it. One tick
  * is a microsecond; reservations and ceilings are thousandths of the core.
@@ -23,15 +23,23 @@
 #include <stdint.h>
 
 #ifdef __cplusplus
+extern "C" {
 #define MTR_ASSERT static_assert
 #define MTR_ALIGNOF alignof
-extern "C" {
 #else
 #define MTR_ASSERT _Static_assert
 #define MTR_ALIGNOF _Alignof
 #endif
 
-MTR_ASSERT(sizeof(size_t) == 8, "size_t");
+/* A struct's size and alignment, and a field's offset and size, in bytes. */
+#define MTR_STRUCT(type, size, align)                                          \
+    MTR_ASSERT(sizeof(type) == size && MTR_ALIGNOF(type) == align, #type)
+#define MTR_FIELD(type, field, offset, size)                                   \
+    MTR_ASSERT(offsetof(type, field) == offset &&                              \
+                   sizeof(((type *)0)->field) == size,                         \
+               #type "." #field)
+
+MTR_STRUCT(size_t, 8, 8);
 
 /* Numbers of threads and groups, and the parts of a block. */
 
@@ -198,16 +206,15 @@ typedef struct mtr_thread {
     uint8_t group;
     uint8_t status;
 } mtr_thread;
-MTR_ASSERT(sizeof(mtr_thread) == 40, "mtr_thread");
-MTR_ASSERT(MTR_ALIGNOF(mtr_thread) == 8, "mtr_thread");
-MTR_ASSERT(offsetof(mtr_thread, admission) == 0, "admission");
-MTR_ASSERT(offsetof(mtr_thread, anchor) == 8, "anchor");
-MTR_ASSERT(offsetof(mtr_thread, ticks) == 16, "ticks");
-MTR_ASSERT(offsetof(mtr_thread, since) == 24, "since");
-MTR_ASSERT(offsetof(mtr_thread, allotment) == 32, "allotment");
-MTR_ASSERT(offsetof(mtr_thread, reservation) == 36, "reservation");
-MTR_ASSERT(offsetof(mtr_thread, group) == 38, "group");
-MTR_ASSERT(offsetof(mtr_thread, status) == 39, "status");
+MTR_STRUCT(mtr_thread, 40, 8);
+MTR_FIELD(mtr_thread, admission, 0, 8);
+MTR_FIELD(mtr_thread, anchor, 8, 8);
+MTR_FIELD(mtr_thread, ticks, 16, 8);
+MTR_FIELD(mtr_thread, since, 24, 8);
+MTR_FIELD(mtr_thread, allotment, 32, 4);
+MTR_FIELD(mtr_thread, reservation, 36, 2);
+MTR_FIELD(mtr_thread, group, 38, 1);
+MTR_FIELD(mtr_thread, status, 39, 1);
 
 /* A group. opened: 0 closed, 1 open. */
 typedef struct mtr_group {
@@ -215,11 +222,10 @@ typedef struct mtr_group {
     uint8_t parent;
     uint8_t opened;
 } mtr_group;
-MTR_ASSERT(sizeof(mtr_group) == 4, "mtr_group");
-MTR_ASSERT(MTR_ALIGNOF(mtr_group) == 2, "mtr_group");
-MTR_ASSERT(offsetof(mtr_group, ceiling) == 0, "ceiling");
-MTR_ASSERT(offsetof(mtr_group, parent) == 2, "parent");
-MTR_ASSERT(offsetof(mtr_group, opened) == 3, "opened");
+MTR_STRUCT(mtr_group, 4, 2);
+MTR_FIELD(mtr_group, ceiling, 0, 2);
+MTR_FIELD(mtr_group, parent, 2, 1);
+MTR_FIELD(mtr_group, opened, 3, 1);
 
 /*
  * The settings: m, the ticks per thousandth of the virtual time quantum, and P,
@@ -229,10 +235,9 @@ typedef struct mtr_settings {
     uint32_t thousandth;
     uint32_t interval;
 } mtr_settings;
-MTR_ASSERT(sizeof(mtr_settings) == 8, "mtr_settings");
-MTR_ASSERT(MTR_ALIGNOF(mtr_settings) == 4, "mtr_settings");
-MTR_ASSERT(offsetof(mtr_settings, thousandth) == 0, "thousandth");
-MTR_ASSERT(offsetof(mtr_settings, interval) == 4, "interval");
+MTR_STRUCT(mtr_settings, 8, 4);
+MTR_FIELD(mtr_settings, thousandth, 0, 4);
+MTR_FIELD(mtr_settings, interval, 4, 4);
 
 /*
  * The list is the first `count` entries of `order`, front first. running: the
@@ -247,15 +252,14 @@ typedef struct mtr_scheduler {
     uint32_t count;
     uint32_t running;
 } mtr_scheduler;
-MTR_ASSERT(sizeof(mtr_scheduler) == 2712, "mtr_scheduler");
-MTR_ASSERT(MTR_ALIGNOF(mtr_scheduler) == 8, "mtr_scheduler");
-MTR_ASSERT(offsetof(mtr_scheduler, threads) == 0, "threads");
-MTR_ASSERT(offsetof(mtr_scheduler, order) == 2560, "order");
-MTR_ASSERT(offsetof(mtr_scheduler, groups) == 2624, "groups");
-MTR_ASSERT(offsetof(mtr_scheduler, meter) == 2688, "meter");
-MTR_ASSERT(offsetof(mtr_scheduler, settings) == 2696, "settings");
-MTR_ASSERT(offsetof(mtr_scheduler, count) == 2704, "count");
-MTR_ASSERT(offsetof(mtr_scheduler, running) == 2708, "running");
+MTR_STRUCT(mtr_scheduler, 2712, 8);
+MTR_FIELD(mtr_scheduler, threads, 0, 2560);
+MTR_FIELD(mtr_scheduler, order, 2560, 64);
+MTR_FIELD(mtr_scheduler, groups, 2624, 64);
+MTR_FIELD(mtr_scheduler, meter, 2688, 8);
+MTR_FIELD(mtr_scheduler, settings, 2696, 8);
+MTR_FIELD(mtr_scheduler, count, 2704, 4);
+MTR_FIELD(mtr_scheduler, running, 2708, 4);
 
 /*
  * What a call answers, with the state after it. answer: 0 accepted, or the
@@ -269,13 +273,12 @@ typedef struct mtr_reply {
     uint32_t before;
     mtr_scheduler state;
 } mtr_reply;
-MTR_ASSERT(sizeof(mtr_reply) == 2728, "mtr_reply");
-MTR_ASSERT(MTR_ALIGNOF(mtr_reply) == 8, "mtr_reply");
-MTR_ASSERT(offsetof(mtr_reply, answer) == 0, "answer");
-MTR_ASSERT(offsetof(mtr_reply, thread) == 4, "thread");
-MTR_ASSERT(offsetof(mtr_reply, slice) == 8, "slice");
-MTR_ASSERT(offsetof(mtr_reply, before) == 12, "before");
-MTR_ASSERT(offsetof(mtr_reply, state) == 16, "state");
+MTR_STRUCT(mtr_reply, 2728, 8);
+MTR_FIELD(mtr_reply, answer, 0, 4);
+MTR_FIELD(mtr_reply, thread, 4, 4);
+MTR_FIELD(mtr_reply, slice, 8, 4);
+MTR_FIELD(mtr_reply, before, 12, 4);
+MTR_FIELD(mtr_reply, state, 16, 2712);
 
 /*
  * The reservation of a priority. answer: 0, or the refusal; the reservation is
@@ -285,10 +288,9 @@ typedef struct mtr_mapped {
     uint32_t answer;
     uint32_t reservation;
 } mtr_mapped;
-MTR_ASSERT(sizeof(mtr_mapped) == 8, "mtr_mapped");
-MTR_ASSERT(MTR_ALIGNOF(mtr_mapped) == 4, "mtr_mapped");
-MTR_ASSERT(offsetof(mtr_mapped, answer) == 0, "answer");
-MTR_ASSERT(offsetof(mtr_mapped, reservation) == 4, "reservation");
+MTR_STRUCT(mtr_mapped, 8, 4);
+MTR_FIELD(mtr_mapped, answer, 0, 4);
+MTR_FIELD(mtr_mapped, reservation, 4, 4);
 
 /*
  * The reservations of a group's subtree. answer: 0, or the refusal; the sum is
@@ -298,30 +300,27 @@ typedef struct mtr_total {
     uint32_t answer;
     uint32_t thousandths;
 } mtr_total;
-MTR_ASSERT(sizeof(mtr_total) == 8, "mtr_total");
-MTR_ASSERT(MTR_ALIGNOF(mtr_total) == 4, "mtr_total");
-MTR_ASSERT(offsetof(mtr_total, answer) == 0, "answer");
-MTR_ASSERT(offsetof(mtr_total, thousandths) == 4, "thousandths");
+MTR_STRUCT(mtr_total, 8, 4);
+MTR_FIELD(mtr_total, answer, 0, 4);
+MTR_FIELD(mtr_total, thousandths, 4, 4);
 
 /* A thread's lag. answer: 0, or the refusal, with a lag of 0. */
 typedef struct mtr_lag_line {
     uint32_t answer;
     int64_t lag;
 } mtr_lag_line;
-MTR_ASSERT(sizeof(mtr_lag_line) == 16, "mtr_lag_line");
-MTR_ASSERT(MTR_ALIGNOF(mtr_lag_line) == 8, "mtr_lag_line");
-MTR_ASSERT(offsetof(mtr_lag_line, answer) == 0, "answer");
-MTR_ASSERT(offsetof(mtr_lag_line, lag) == 8, "lag");
+MTR_STRUCT(mtr_lag_line, 16, 8);
+MTR_FIELD(mtr_lag_line, answer, 0, 4);
+MTR_FIELD(mtr_lag_line, lag, 8, 8);
 
 /* A thread's achieved share. answer: 0, or the refusal, with a share of 0. */
 typedef struct mtr_share_line {
     uint32_t answer;
     uint32_t share;
 } mtr_share_line;
-MTR_ASSERT(sizeof(mtr_share_line) == 8, "mtr_share_line");
-MTR_ASSERT(MTR_ALIGNOF(mtr_share_line) == 4, "mtr_share_line");
-MTR_ASSERT(offsetof(mtr_share_line, answer) == 0, "answer");
-MTR_ASSERT(offsetof(mtr_share_line, share) == 4, "share");
+MTR_STRUCT(mtr_share_line, 8, 4);
+MTR_FIELD(mtr_share_line, answer, 0, 4);
+MTR_FIELD(mtr_share_line, share, 4, 4);
 
 /* A record of the roster. state: 0 runnable, 1 blocked, 2 running. */
 typedef struct mtr_entry {
@@ -331,13 +330,12 @@ typedef struct mtr_entry {
     uint32_t share;
     int64_t lag;
 } mtr_entry;
-MTR_ASSERT(sizeof(mtr_entry) == 24, "mtr_entry");
-MTR_ASSERT(MTR_ALIGNOF(mtr_entry) == 8, "mtr_entry");
-MTR_ASSERT(offsetof(mtr_entry, number) == 0, "number");
-MTR_ASSERT(offsetof(mtr_entry, state) == 4, "state");
-MTR_ASSERT(offsetof(mtr_entry, allotment) == 8, "allotment");
-MTR_ASSERT(offsetof(mtr_entry, share) == 12, "share");
-MTR_ASSERT(offsetof(mtr_entry, lag) == 16, "lag");
+MTR_STRUCT(mtr_entry, 24, 8);
+MTR_FIELD(mtr_entry, number, 0, 4);
+MTR_FIELD(mtr_entry, state, 4, 4);
+MTR_FIELD(mtr_entry, allotment, 8, 4);
+MTR_FIELD(mtr_entry, share, 12, 4);
+MTR_FIELD(mtr_entry, lag, 16, 8);
 
 /* A record as numbers. Not every value has a form in a block: see has_form. */
 typedef struct mtr_record {
@@ -348,22 +346,20 @@ typedef struct mtr_record {
     uint16_t amount;
     uint32_t ticks;
 } mtr_record;
-MTR_ASSERT(sizeof(mtr_record) == 12, "mtr_record");
-MTR_ASSERT(MTR_ALIGNOF(mtr_record) == 4, "mtr_record");
-MTR_ASSERT(offsetof(mtr_record, kind) == 0, "kind");
-MTR_ASSERT(offsetof(mtr_record, subject) == 1, "subject");
-MTR_ASSERT(offsetof(mtr_record, group) == 2, "group");
-MTR_ASSERT(offsetof(mtr_record, reason) == 3, "reason");
-MTR_ASSERT(offsetof(mtr_record, amount) == 4, "amount");
-MTR_ASSERT(offsetof(mtr_record, ticks) == 8, "ticks");
+MTR_STRUCT(mtr_record, 12, 4);
+MTR_FIELD(mtr_record, kind, 0, 1);
+MTR_FIELD(mtr_record, subject, 1, 1);
+MTR_FIELD(mtr_record, group, 2, 1);
+MTR_FIELD(mtr_record, reason, 3, 1);
+MTR_FIELD(mtr_record, amount, 4, 2);
+MTR_FIELD(mtr_record, ticks, 8, 4);
 
 /* The records for a block. How many of them are written is told beside it. */
 typedef struct mtr_records {
     mtr_record records[31];
 } mtr_records;
-MTR_ASSERT(sizeof(mtr_records) == 372, "mtr_records");
-MTR_ASSERT(MTR_ALIGNOF(mtr_records) == 4, "mtr_records");
-MTR_ASSERT(offsetof(mtr_records, records) == 0, "records");
+MTR_STRUCT(mtr_records, 372, 4);
+MTR_FIELD(mtr_records, records, 0, 372);
 
 /*
  * What reading finds. answer: 0, or the refusal. records: the block's, and
@@ -374,11 +370,10 @@ typedef struct mtr_found {
     uint32_t count;
     mtr_record records[31];
 } mtr_found;
-MTR_ASSERT(sizeof(mtr_found) == 380, "mtr_found");
-MTR_ASSERT(MTR_ALIGNOF(mtr_found) == 4, "mtr_found");
-MTR_ASSERT(offsetof(mtr_found, answer) == 0, "answer");
-MTR_ASSERT(offsetof(mtr_found, count) == 4, "count");
-MTR_ASSERT(offsetof(mtr_found, records) == 8, "records");
+MTR_STRUCT(mtr_found, 380, 4);
+MTR_FIELD(mtr_found, answer, 0, 4);
+MTR_FIELD(mtr_found, count, 4, 4);
+MTR_FIELD(mtr_found, records, 8, 372);
 
 /* The scheduler's calls */
 
@@ -585,8 +580,10 @@ uint32_t mtr_write_block(uint8_t *area, size_t area_len, uint32_t block,
  */
 mtr_found mtr_read_block(const uint8_t *area, size_t area_len, uint32_t block);
 
-#undef MTR_ASSERT
+#undef MTR_FIELD
+#undef MTR_STRUCT
 #undef MTR_ALIGNOF
+#undef MTR_ASSERT
 
 #ifdef __cplusplus
 }

@@ -2,7 +2,7 @@
 //!
 //! The state is handed over by value and comes back with the answer, after a
 //! refusal unchanged. Answers are numbers, 0 accepted. What each function
-//! refuses stands with its declaration in [`raw`](crate::raw). This is the one
+//! refuses stands with its declaration in [`raw`]. This is the one
 //! module that calls an unsafe function.
 
 use crate::raw;

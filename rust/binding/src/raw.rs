@@ -11,6 +11,24 @@ use core::mem::{align_of, offset_of, size_of};
 
 const _: () = assert!(size_of::<usize>() == 8);
 
+const fn size_of_field<T, F>(_: fn(&T) -> &F) -> usize {
+    size_of::<F>()
+}
+
+// Asserts a struct's size and alignment, and each field's offset and size.
+macro_rules! layout {
+    ($name:ident = $size:literal, $align:literal; $($field:ident = $offset:literal, $bytes:literal;)+) => {
+        const _: () = {
+            assert!(size_of::<$name>() == $size);
+            assert!(align_of::<$name>() == $align);
+            $(
+                assert!(offset_of!($name, $field) == $offset);
+                assert!(size_of_field(|s: &$name| &s.$field) == $bytes);
+            )+
+        };
+    };
+}
+
 // Numbers of threads and groups, and the parts of a block.
 
 /// Most threads; their numbers begin at 0.
@@ -165,18 +183,17 @@ pub struct Thread {
     pub status: u8,
 }
 
-const _: () = {
-    assert!(size_of::<Thread>() == 40);
-    assert!(align_of::<Thread>() == 8);
-    assert!(offset_of!(Thread, admission) == 0);
-    assert!(offset_of!(Thread, anchor) == 8);
-    assert!(offset_of!(Thread, ticks) == 16);
-    assert!(offset_of!(Thread, since) == 24);
-    assert!(offset_of!(Thread, allotment) == 32);
-    assert!(offset_of!(Thread, reservation) == 36);
-    assert!(offset_of!(Thread, group) == 38);
-    assert!(offset_of!(Thread, status) == 39);
-};
+layout! {
+    Thread = 40, 8;
+    admission = 0, 8;
+    anchor = 8, 8;
+    ticks = 16, 8;
+    since = 24, 8;
+    allotment = 32, 4;
+    reservation = 36, 2;
+    group = 38, 1;
+    status = 39, 1;
+}
 
 /// A group. opened: 0 closed, 1 open.
 #[repr(C)]
@@ -187,13 +204,12 @@ pub struct Group {
     pub opened: u8,
 }
 
-const _: () = {
-    assert!(size_of::<Group>() == 4);
-    assert!(align_of::<Group>() == 2);
-    assert!(offset_of!(Group, ceiling) == 0);
-    assert!(offset_of!(Group, parent) == 2);
-    assert!(offset_of!(Group, opened) == 3);
-};
+layout! {
+    Group = 4, 2;
+    ceiling = 0, 2;
+    parent = 2, 1;
+    opened = 3, 1;
+}
 
 /// The settings: m, the ticks per thousandth of the virtual time quantum, and
 /// P, the preemption interval in ticks.
@@ -204,12 +220,11 @@ pub struct Settings {
     pub interval: u32,
 }
 
-const _: () = {
-    assert!(size_of::<Settings>() == 8);
-    assert!(align_of::<Settings>() == 4);
-    assert!(offset_of!(Settings, thousandth) == 0);
-    assert!(offset_of!(Settings, interval) == 4);
-};
+layout! {
+    Settings = 8, 4;
+    thousandth = 0, 4;
+    interval = 4, 4;
+}
 
 /// The list is the first `count` entries of `order`, front first. running: the
 /// running thread's number, or 64.
@@ -225,17 +240,16 @@ pub struct Scheduler {
     pub running: u32,
 }
 
-const _: () = {
-    assert!(size_of::<Scheduler>() == 2712);
-    assert!(align_of::<Scheduler>() == 8);
-    assert!(offset_of!(Scheduler, threads) == 0);
-    assert!(offset_of!(Scheduler, order) == 2560);
-    assert!(offset_of!(Scheduler, groups) == 2624);
-    assert!(offset_of!(Scheduler, meter) == 2688);
-    assert!(offset_of!(Scheduler, settings) == 2696);
-    assert!(offset_of!(Scheduler, count) == 2704);
-    assert!(offset_of!(Scheduler, running) == 2708);
-};
+layout! {
+    Scheduler = 2712, 8;
+    threads = 0, 2560;
+    order = 2560, 64;
+    groups = 2624, 64;
+    meter = 2688, 8;
+    settings = 2696, 8;
+    count = 2704, 4;
+    running = 2708, 4;
+}
 
 /// What a call answers, with the state after it. answer: 0 accepted, or the
 /// refusal. thread (64: idle), slice and before are 0 except for an accepted
@@ -250,15 +264,14 @@ pub struct Reply {
     pub state: Scheduler,
 }
 
-const _: () = {
-    assert!(size_of::<Reply>() == 2728);
-    assert!(align_of::<Reply>() == 8);
-    assert!(offset_of!(Reply, answer) == 0);
-    assert!(offset_of!(Reply, thread) == 4);
-    assert!(offset_of!(Reply, slice) == 8);
-    assert!(offset_of!(Reply, before) == 12);
-    assert!(offset_of!(Reply, state) == 16);
-};
+layout! {
+    Reply = 2728, 8;
+    answer = 0, 4;
+    thread = 4, 4;
+    slice = 8, 4;
+    before = 12, 4;
+    state = 16, 2712;
+}
 
 /// The reservation of a priority. answer: 0, or the refusal; the reservation is
 /// then 0.
@@ -269,12 +282,11 @@ pub struct Mapped {
     pub reservation: u32,
 }
 
-const _: () = {
-    assert!(size_of::<Mapped>() == 8);
-    assert!(align_of::<Mapped>() == 4);
-    assert!(offset_of!(Mapped, answer) == 0);
-    assert!(offset_of!(Mapped, reservation) == 4);
-};
+layout! {
+    Mapped = 8, 4;
+    answer = 0, 4;
+    reservation = 4, 4;
+}
 
 /// The reservations of a group's subtree. answer: 0, or the refusal; the sum is
 /// then 0.
@@ -285,12 +297,11 @@ pub struct Total {
     pub thousandths: u32,
 }
 
-const _: () = {
-    assert!(size_of::<Total>() == 8);
-    assert!(align_of::<Total>() == 4);
-    assert!(offset_of!(Total, answer) == 0);
-    assert!(offset_of!(Total, thousandths) == 4);
-};
+layout! {
+    Total = 8, 4;
+    answer = 0, 4;
+    thousandths = 4, 4;
+}
 
 /// A thread's lag. answer: 0, or the refusal, with a lag of 0.
 #[repr(C)]
@@ -300,12 +311,11 @@ pub struct LagLine {
     pub lag: i64,
 }
 
-const _: () = {
-    assert!(size_of::<LagLine>() == 16);
-    assert!(align_of::<LagLine>() == 8);
-    assert!(offset_of!(LagLine, answer) == 0);
-    assert!(offset_of!(LagLine, lag) == 8);
-};
+layout! {
+    LagLine = 16, 8;
+    answer = 0, 4;
+    lag = 8, 8;
+}
 
 /// A thread's achieved share. answer: 0, or the refusal, with a share of 0.
 #[repr(C)]
@@ -315,12 +325,11 @@ pub struct ShareLine {
     pub share: u32,
 }
 
-const _: () = {
-    assert!(size_of::<ShareLine>() == 8);
-    assert!(align_of::<ShareLine>() == 4);
-    assert!(offset_of!(ShareLine, answer) == 0);
-    assert!(offset_of!(ShareLine, share) == 4);
-};
+layout! {
+    ShareLine = 8, 4;
+    answer = 0, 4;
+    share = 4, 4;
+}
 
 /// A record of the roster. state: 0 runnable, 1 blocked, 2 running.
 #[repr(C)]
@@ -333,15 +342,14 @@ pub struct Entry {
     pub lag: i64,
 }
 
-const _: () = {
-    assert!(size_of::<Entry>() == 24);
-    assert!(align_of::<Entry>() == 8);
-    assert!(offset_of!(Entry, number) == 0);
-    assert!(offset_of!(Entry, state) == 4);
-    assert!(offset_of!(Entry, allotment) == 8);
-    assert!(offset_of!(Entry, share) == 12);
-    assert!(offset_of!(Entry, lag) == 16);
-};
+layout! {
+    Entry = 24, 8;
+    number = 0, 4;
+    state = 4, 4;
+    allotment = 8, 4;
+    share = 12, 4;
+    lag = 16, 8;
+}
 
 /// A record as numbers. Not every value has a form in a block: see has_form.
 #[repr(C)]
@@ -355,16 +363,15 @@ pub struct Record {
     pub ticks: u32,
 }
 
-const _: () = {
-    assert!(size_of::<Record>() == 12);
-    assert!(align_of::<Record>() == 4);
-    assert!(offset_of!(Record, kind) == 0);
-    assert!(offset_of!(Record, subject) == 1);
-    assert!(offset_of!(Record, group) == 2);
-    assert!(offset_of!(Record, reason) == 3);
-    assert!(offset_of!(Record, amount) == 4);
-    assert!(offset_of!(Record, ticks) == 8);
-};
+layout! {
+    Record = 12, 4;
+    kind = 0, 1;
+    subject = 1, 1;
+    group = 2, 1;
+    reason = 3, 1;
+    amount = 4, 2;
+    ticks = 8, 4;
+}
 
 /// The records for a block. How many of them are written is told beside it.
 #[repr(C)]
@@ -373,11 +380,10 @@ pub struct Records {
     pub records: [Record; 31],
 }
 
-const _: () = {
-    assert!(size_of::<Records>() == 372);
-    assert!(align_of::<Records>() == 4);
-    assert!(offset_of!(Records, records) == 0);
-};
+layout! {
+    Records = 372, 4;
+    records = 0, 372;
+}
 
 /// What reading finds. answer: 0, or the refusal. records: the block's, and
 /// blank ones past the last of `count`.
@@ -389,13 +395,12 @@ pub struct Found {
     pub records: [Record; 31],
 }
 
-const _: () = {
-    assert!(size_of::<Found>() == 380);
-    assert!(align_of::<Found>() == 4);
-    assert!(offset_of!(Found, answer) == 0);
-    assert!(offset_of!(Found, count) == 4);
-    assert!(offset_of!(Found, records) == 8);
-};
+layout! {
+    Found = 380, 4;
+    answer = 0, 4;
+    count = 4, 4;
+    records = 8, 372;
+}
 
 // SAFETY: these are the library's exported functions. Those that take numbers
 // and structs of numbers alone accept every bit pattern and touch no memory of

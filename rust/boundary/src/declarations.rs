@@ -37,6 +37,24 @@ use core::mem::{align_of, offset_of, size_of};
 
 const _: () = assert!(size_of::<usize>() == 8);
 
+const fn size_of_field<T, F>(_: fn(&T) -> &F) -> usize {
+    size_of::<F>()
+}
+
+// Asserts a struct's size and alignment, and each field's offset and size.
+macro_rules! layout {
+    ($name:ident = $size:literal, $align:literal; $($field:ident = $offset:literal, $bytes:literal;)+) => {
+        const _: () = {
+            assert!(size_of::<$name>() == $size);
+            assert!(align_of::<$name>() == $align);
+            $(
+                assert!(offset_of!($name, $field) == $offset);
+                assert!(size_of_field(|s: &$name| &s.$field) == $bytes);
+            )+
+        };
+    };
+}
+
 ";
 
 const FUNCTIONS: &str = "\
@@ -69,14 +87,13 @@ fn structure(interface: &Interface, s: &Struct) -> String {
         out += &docs("    ", &field.doc);
         out += &format!("    pub {}: {},\n", field.name, named(&field.form));
     }
-    out += "}\n\nconst _: () = {\n";
-    out += &format!("    assert!(size_of::<{name}>() == {});\n", s.size);
-    out += &format!("    assert!(align_of::<{name}>() == {});\n", s.align);
+    out += "}\n\nlayout! {\n";
+    out += &format!("    {name} = {}, {};\n", s.size, s.align);
     for field in &s.fields {
-        let (field, offset) = (&field.name, field.offset);
-        out += &format!("    assert!(offset_of!({name}, {field}) == {offset});\n");
+        let (field, offset, size) = (&field.name, field.offset, field.size);
+        out += &format!("    {field} = {offset}, {size};\n");
     }
-    out + "};\n\n"
+    out + "}\n\n"
 }
 
 /// Zeros are a default, and Rust can derive it: for arrays of up to 32.

@@ -37,7 +37,7 @@ const HEAD: &str = r#"/*
  *     state = reply.state;
  *
  * An answer is MTR_ACCEPTED or one of MTR_REFUSED_*. The library holds no
- * memory of its own, allocates none and calls nothing but memcpy and memset.
+ * memory of its own, allocates none, and of libc calls the mem functions alone.
  * Every value of every argument is allowed, also a state of arbitrary bytes. A
  * pointer is not null and is valid for the length that goes with it. One tick
  * is a microsecond; reservations and ceilings are thousandths of the core.
@@ -49,20 +49,30 @@ const HEAD: &str = r#"/*
 #include <stdint.h>
 
 #ifdef __cplusplus
+extern "C" {
 #define MTR_ASSERT static_assert
 #define MTR_ALIGNOF alignof
-extern "C" {
 #else
 #define MTR_ASSERT _Static_assert
 #define MTR_ALIGNOF _Alignof
 #endif
 
-MTR_ASSERT(sizeof(size_t) == 8, "size_t");
+/* A struct's size and alignment, and a field's offset and size, in bytes. */
+#define MTR_STRUCT(type, size, align)                                          \
+    MTR_ASSERT(sizeof(type) == size && MTR_ALIGNOF(type) == align, #type)
+#define MTR_FIELD(type, field, offset, size)                                   \
+    MTR_ASSERT(offsetof(type, field) == offset &&                              \
+                   sizeof(((type *)0)->field) == size,                         \
+               #type "." #field)
+
+MTR_STRUCT(size_t, 8, 8);
 
 "#;
 
-const TAIL: &str = r#"#undef MTR_ASSERT
+const TAIL: &str = r#"#undef MTR_FIELD
+#undef MTR_STRUCT
 #undef MTR_ALIGNOF
+#undef MTR_ASSERT
 
 #ifdef __cplusplus
 }
@@ -105,14 +115,10 @@ fn structure(s: &Struct) -> String {
         out += &format!("    {};\n", declared(&field.form, &field.name));
     }
     out += &format!("}} {name};\n");
-    out += &format!("MTR_ASSERT(sizeof({name}) == {}, \"{name}\");\n", s.size);
-    out += &format!(
-        "MTR_ASSERT(MTR_ALIGNOF({name}) == {}, \"{name}\");\n",
-        s.align
-    );
+    out += &format!("MTR_STRUCT({name}, {}, {});\n", s.size, s.align);
     for field in &s.fields {
-        let (field, offset) = (&field.name, field.offset);
-        out += &format!("MTR_ASSERT(offsetof({name}, {field}) == {offset}, \"{field}\");\n");
+        let (field, offset, size) = (&field.name, field.offset, field.size);
+        out += &format!("MTR_FIELD({name}, {field}, {offset}, {size});\n");
     }
     out + "\n"
 }

@@ -1,0 +1,233 @@
+//! The committed header and declarations: up to date, accepted by the C and C++
+//! compilers, and the same sizes and offsets in both.
+
+use std::collections::BTreeMap;
+use std::fs;
+use std::path::{Path, PathBuf};
+use std::process::{Command, Output};
+
+use boundary::interface::c_name;
+
+fn committed(path: &str) -> String {
+    fs::read_to_string(boundary::root().join(path)).unwrap_or_else(|e| panic!("{path}: {e}"))
+}
+
+#[test]
+fn up_to_date() {
+    let files = boundary::generate(&boundary::root()).unwrap();
+    assert_eq!(files.len(), 2);
+    for (path, text) in files {
+        let now = committed(path);
+        let line = now
+            .lines()
+            .zip(text.lines())
+            .take_while(|(a, b)| a == b)
+            .count()
+            + 1;
+        assert!(
+            now == text,
+            "{path} is out of date from line {line} on. Renew it, from the repository's root:\n    {}",
+            boundary::COMMAND
+        );
+    }
+}
+
+/// A folder of this test's own.
+fn folder(name: &str) -> PathBuf {
+    let folder = Path::new(env!("CARGO_TARGET_TMPDIR")).join(name);
+    let _ = fs::remove_dir_all(&folder);
+    fs::create_dir_all(&folder).unwrap();
+    folder
+}
+
+fn compile(compiler: &str, standard: &str, include: &Path, source: &Path) -> Output {
+    let flags = ["-Wall", "-Wextra", "-Werror", "-pedantic", "-fsyntax-only"];
+    Command::new(compiler)
+        .arg(format!("-std={standard}"))
+        .args(flags)
+        .arg("-I")
+        .arg(include)
+        .arg(source)
+        .output()
+        .unwrap_or_else(|e| panic!("{compiler}: {e}"))
+}
+
+#[test]
+fn compilers_accept_the_header() {
+    let folder = folder("accept");
+    let include = boundary::root().join("include");
+    // Twice, to try the guard.
+    let text = "#include \"mtr.h\"\n#include \"mtr.h\"\nint main(void) { return MTR_ACCEPTED; }\n";
+    for (compiler, standard, name) in [
+        ("cc", "c11", "a.c"),
+        ("cc", "c17", "a.c"),
+        ("c++", "c++11", "a.cc"),
+        ("c++", "c++20", "a.cc"),
+    ] {
+        let source = folder.join(name);
+        fs::write(&source, text).unwrap();
+        let output = compile(compiler, standard, &include, &source);
+        let said = String::from_utf8_lossy(&output.stderr);
+        assert!(
+            output.status.success(),
+            "{compiler} -std={standard}: {said}"
+        );
+        assert!(said.is_empty(), "{said}");
+    }
+}
+
+/// A field of another size makes the compiler refuse the header.
+#[test]
+fn asserts_hold_the_layout() {
+    let folder = folder("refuse");
+    let header = committed("include/mtr.h");
+    let source = folder.join("a.c");
+    fs::write(&source, "#include \"mtr.h\"\n").unwrap();
+    for (from, to) in [
+        ("    uint16_t amount;", "    uint8_t amount;"),
+        ("    uint32_t ticks;", "    uint16_t ticks;"),
+        ("    mtr_group groups[16];", "    mtr_group groups[17];"),
+        ("    int64_t lag;", "    int32_t lag;"),
+        (
+            "    uint8_t parent;\n    uint8_t opened;",
+            "    uint8_t opened;\n    uint8_t parent;",
+        ),
+    ] {
+        let changed = header.replacen(from, to, 1);
+        assert_ne!(changed, header, "{from}");
+        fs::write(folder.join("mtr.h"), changed).unwrap();
+        let output = compile("cc", "c11", &folder, &source);
+        let said = String::from_utf8_lossy(&output.stderr);
+        assert!(!output.status.success(), "{to} is accepted");
+        assert!(said.contains("static assertion failed"), "{to}: {said}");
+    }
+}
+
+/// Size and alignment by struct, and offset and size by struct and field.
+type Layout = BTreeMap<(String, String), [u64; 2]>;
+
+fn pair(text: &str) -> [u64; 2] {
+    let (a, b) = text.split_once(", ").unwrap();
+    [a, b].map(|n| n.parse().unwrap())
+}
+
+fn asserted_in_c() -> Layout {
+    let mut found = Layout::new();
+    for line in committed("include/mtr.h").lines() {
+        let Some(line) = line.strip_suffix(");") else {
+            continue;
+        };
+        if let Some((name, rest)) = line
+            .strip_prefix("MTR_STRUCT(")
+            .and_then(|l| l.split_once(", "))
+        {
+            found.insert((name.to_string(), String::new()), pair(rest));
+        }
+        if let Some((name, rest)) = line
+            .strip_prefix("MTR_FIELD(")
+            .and_then(|l| l.split_once(", "))
+        {
+            let (field, rest) = rest.split_once(", ").unwrap();
+            found.insert((name.to_string(), field.to_string()), pair(rest));
+        }
+    }
+    found
+}
+
+fn asserted_in_rust() -> Layout {
+    let mut found = Layout::new();
+    let text = committed("rust/binding/src/raw.rs");
+    for layout in text.split("\nlayout! {\n").skip(1) {
+        let mut name = String::new();
+        for line in layout.lines().take_while(|line| *line != "}") {
+            let (what, rest) = line.trim().trim_end_matches(';').split_once(" = ").unwrap();
+            let field = match name.is_empty() {
+                true => {
+                    name = c_name(what);
+                    String::new()
+                }
+                false => what.to_string(),
+            };
+            found.insert((name.clone(), field), pair(rest));
+        }
+    }
+    found
+}
+
+#[test]
+fn both_assert_the_same() {
+    let mut c = asserted_in_c();
+    let size = c.remove(&("size_t".to_string(), String::new()));
+    assert_eq!(size, Some([8, 8]));
+    let structs = c.keys().filter(|key| key.1.is_empty()).count();
+    assert!(
+        structs == 13 && c.len() > 60,
+        "{structs} structs, {} lines",
+        c.len()
+    );
+    assert_eq!(c, asserted_in_rust());
+}
+
+/// Every constant has the same value in both.
+#[test]
+fn both_have_the_same_constants() {
+    let mut c = BTreeMap::new();
+    for line in committed("include/mtr.h").lines() {
+        let line = line.trim().trim_end_matches(',');
+        let pair = match line.strip_prefix("#define MTR_") {
+            Some(rest) => rest.split_once(' '),
+            None => line
+                .strip_prefix("MTR_")
+                .and_then(|rest| rest.split_once(" = ")),
+        };
+        if let Some((name, value)) = pair {
+            let value = value.trim_start_matches("UINT64_C(").trim_end_matches(')');
+            if let Ok(value) = value.parse::<u64>() {
+                c.insert(name.to_string(), value);
+            }
+        }
+    }
+    let mut rust = BTreeMap::new();
+    for line in committed("rust/binding/src/raw.rs").lines() {
+        let rest = line
+            .strip_prefix("pub const ")
+            .and_then(|rest| rest.strip_suffix(';'));
+        if let Some((name, rest)) = rest.and_then(|rest| rest.split_once(": ")) {
+            let (_, value) = rest.split_once(" = ").unwrap();
+            rust.insert(name.to_string(), value.parse::<u64>().unwrap());
+        }
+    }
+    assert!(c.len() > 50, "{}", c.len());
+    assert_eq!(c, rust);
+}
+
+/// The archive has every function that the header declares and no other.
+#[test]
+fn the_archive_has_the_functions() {
+    let archive = boundary::root().join("target/staticlib/libabi.a");
+    let output = Command::new("nm").arg("-g").arg(&archive).output().unwrap();
+    assert!(output.status.success(), "nm {}", archive.display());
+    let text = String::from_utf8(output.stdout).unwrap();
+    let mut present: Vec<&str> = text
+        .lines()
+        .filter_map(|l| Some(l.split_once(" T ")?.1))
+        .collect();
+    let mut needed: Vec<&str> = text
+        .lines()
+        .filter_map(|l| Some(l.split_once(" U ")?.1))
+        .collect();
+    let header = committed("include/mtr.h");
+    let mut declared: Vec<&str> = header
+        .lines()
+        .filter(|l| !l.starts_with(['#', ' ', '/', 'M', '}']))
+        .filter_map(|l| l.split_once('(')?.0.split_once(' '))
+        .map(|pair| pair.1)
+        .collect();
+    present.sort_unstable();
+    declared.sort_unstable();
+    assert_eq!(declared.len(), 16);
+    assert_eq!(present, declared);
+    needed.sort_unstable();
+    let libc = ["memcmp", "memcpy", "memmove", "memset"];
+    assert!(needed.iter().all(|n| libc.contains(n)), "{needed:?}");
+}
