@@ -5,8 +5,8 @@
 //! a block. Any bytes are a recipe.
 
 use crate::guard::{Guarded, Side};
-use binding::raw;
-use compare::{both, start, to_library, to_library_record, to_model_entry, to_model_record};
+use binding::{numbers, raw};
+use compare::{both, sound, start, to_library, to_library_record, to_model_entry, to_model_record};
 use model::accounts::Entry;
 use model::blocks::{check, kind, read_block, write_block, Record, BLOCK, RECORDS};
 use model::random::Call;
@@ -138,7 +138,7 @@ fn listed(mut bytes: Bytes) -> Vec<u8> {
 }
 
 /// Replays a journal by the library's functions and by the model. Each block's reading, each call's answer and state and
-/// the roster at the end are the same on both sides, and so is all that is printed, which is handed back.
+/// the accounts at the end are the same on both sides, and so is all that is printed, which is handed back.
 ///
 /// # Panics
 ///
@@ -165,6 +165,7 @@ pub fn replay(journal: &[u8]) -> String {
     }
     if let Some(state) = &state {
         roster(&mut page, state);
+        accounts(state);
     }
     assert_eq!(printed.as_bytes(), model::replay::replay(journal));
     printed
@@ -258,5 +259,17 @@ fn roster(page: &mut Guarded, s: &Scheduler) {
             assert!(found.iter().map(to_model_entry).eq(wanted.iter().copied()));
             assert!(page.intact(side, ENTRY * length));
         }
+    }
+}
+
+/// Soundness, and the lag and the share of every number.
+fn accounts(s: &Scheduler) {
+    assert!(sound(s));
+    let state = to_library(s);
+    for number in 0..=64 {
+        let (lag, share) = (s.lag(number), s.share(number));
+        assert_eq!(numbers::lag(state, number).result(), lag);
+        let found = numbers::share(state, number).result();
+        assert_eq!(found.map(u64::from), share);
     }
 }
