@@ -111,7 +111,10 @@ fn the_fuzzer_compiles() {
         .arg("--manifest-path")
         .arg(root().join("rust/Cargo.toml"))
         .env("RUSTFLAGS", "--cfg fuzzing -D warnings")
-        .env("CARGO_TARGET_DIR", env!("CARGO_TARGET_TMPDIR"))
+        .env(
+            "CARGO_TARGET_DIR",
+            Path::new(env!("CARGO_TARGET_TMPDIR")).join("fuzzing"),
+        )
         .output()
         .unwrap();
     let said = String::from_utf8_lossy(&done.stderr);
