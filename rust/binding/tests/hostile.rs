@@ -2,26 +2,23 @@
 //! and lent memory against pages that nobody may touch.
 
 use binding::raw;
-use fuzz::attack::{Attack, CALLS, FUNCTIONS, ORIGINS};
+use fuzz::attack::{Attack, FUNCTIONS, ORIGINS, ROUNDS, SEED};
 use fuzz::faults;
 use fuzz::guard::{Guarded, Side};
 use std::os::unix::process::ExitStatusExt;
 use std::process::Command;
 
-const SEED: u64 = 2026;
-const TOTAL: u64 = 1_000_000;
-
 #[test]
 fn a_million_calls() {
     faults::watch();
     let mut attack = Attack::new(SEED);
-    for round in 0..TOTAL.div_ceil(CALLS) {
+    for round in 0..ROUNDS {
         attack.round(round);
     }
-    assert!(attack.calls() >= TOTAL);
+    assert_eq!(attack.calls(), 1_000_000);
     for ((name, wanted), counts) in FUNCTIONS.iter().zip(&attack.answers) {
         let made: u64 = counts.iter().sum();
-        assert!(made > TOTAL / 20, "{name}: {made} calls");
+        assert!(made > 50_000, "{name}: {made} calls");
         let seen: Vec<u32> = (0..20).filter(|&a| counts[a as usize] > 0).collect();
         assert_eq!(seen, *wanted, "{name}");
         let rare = wanted.iter().filter(|&&a| counts[a as usize] < 100);

@@ -16,6 +16,10 @@ use std::mem::{size_of, transmute};
 /// Calls of a round.
 pub const CALLS: u64 = 8;
 
+/// Seed and rounds of the gate.
+pub const SEED: u64 = 2026;
+pub const ROUNDS: u64 = 1_000_000 / CALLS;
+
 /// The exported functions, and the answers that each one can give.
 pub const FUNCTIONS: [(&str, &[u32]); 16] = [
     ("mtr_start", &[0, 1]),

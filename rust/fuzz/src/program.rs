@@ -1,8 +1,9 @@
-//! The entry of libFuzzer, and `mtrrun` as a function of it.
+//! The entries of the builds with coverage: that of libFuzzer, with `mtrrun` as a function, and that of `coverage.sh`.
 //!
 //! `build.sh` compiles the program's proved module with coverage and renames its `main`, `read` and `write` to the
 //! functions named here, so that the program runs within the fuzzer.
 
+use crate::attack::{Attack, ROUNDS, SEED};
 use crate::journal::{case, replay, Case};
 use core::ffi::c_int;
 use std::cell::RefCell;
@@ -93,4 +94,14 @@ pub unsafe extern "C" fn LLVMFuzzerTestOneInput(data: *const u8, size: usize) ->
     let printed = replay(&case.journal);
     assert!(mtrrun(case) == printed.as_bytes());
     0
+}
+
+/// Makes the rounds of the gate and calls `after` after each.
+#[no_mangle]
+pub extern "C" fn hostile_rounds(after: extern "C" fn()) {
+    let mut attack = Attack::new(SEED);
+    for round in 0..ROUNDS {
+        attack.round(round);
+        after();
+    }
 }
