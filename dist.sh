@@ -55,12 +55,15 @@ new=$(mktemp -d "$folder.new.XXXXXX") || fail "can't make a folder beside $folde
 trap 'rm -rf "$new"' EXIT
 trap 'exit 1' HUP INT TERM
 
+# The crate goes without its tests, and its manifest without what they need.
+package='/^\[/ { tests = /dev-dependencies/ || /^\[\[(test|example|bench)\]\]/ } !tests'
 {
     chmod 755 "$new" &&
         mkdir "$new/lib" "$new/include" "$new/rust" &&
         cp "$archive" "$new/lib/libmtr.a" &&
         cp include/mtr.h "$new/include/mtr.h" &&
-        cp -R rust/binding/Cargo.toml rust/binding/build.rs rust/binding/src "$new/rust/" &&
+        cp -R rust/binding/build.rs rust/binding/src "$new/rust/" &&
+        awk "$package" rust/binding/Cargo.toml >"$new/rust/Cargo.toml" &&
         echo "$version" >"$new/VERSION"
 } || fail "can't fill $new"
 

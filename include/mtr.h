@@ -125,8 +125,7 @@ enum {
     /* The block or a record has not the form that is asked for. */
     MTR_REFUSED_FORM = 19,
     /*
-     * Only in what mtrrun prints: a record after a refused block and before the
-     * next accepted start.
+     * In what mtrrun prints alone: no start is accepted since a refused block.
      */
     MTR_REFUSED_NOT_STARTED = 20
 };

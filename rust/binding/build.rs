@@ -11,8 +11,8 @@ fn main() {
     for (folder, name) in places {
         let folder = manifest.join(folder);
         let archive = folder.join(format!("lib{name}.a"));
-        println!("cargo::rerun-if-changed={}", archive.display());
         if archive.is_file() {
+            println!("cargo::rerun-if-changed={}", archive.display());
             println!("cargo::rustc-link-search=native={}", folder.display());
             println!("cargo::rustc-link-lib=static={name}");
             return;

@@ -108,8 +108,7 @@ pub const REFUSED_LENGTH: u32 = 17;
 pub const REFUSED_CHECK: u32 = 18;
 /// The block or a record has not the form that is asked for.
 pub const REFUSED_FORM: u32 = 19;
-/// Only in what mtrrun prints: a record after a refused block and before the
-/// next accepted start.
+/// In what mtrrun prints alone: no start is accepted since a refused block.
 pub const REFUSED_NOT_STARTED: u32 = 20;
 
 // Reasons of a report.

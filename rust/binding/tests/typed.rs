@@ -314,6 +314,33 @@ fn idle_tells_the_length_of_the_list() {
     assert_eq!(s.running(), None);
 }
 
+/// The numbers of statuses and open groups in the state.
+#[test]
+fn state_as_numbers() {
+    let mut s = with(&[(1, 10), (2, 10)]);
+    s.open(3, 0, 5).unwrap();
+    s.dispatch().unwrap();
+    s.report(Reason::Block, 1).unwrap();
+    let state = s.as_raw();
+    for (number, thread) in state.threads.iter().enumerate() {
+        let status = match number {
+            1 => raw::STATUS_BLOCKED,
+            2 => raw::STATUS_RUNNABLE,
+            _ => raw::STATUS_FREE,
+        };
+        assert_eq!(thread.status, status, "{number}");
+    }
+    for (number, group) in state.groups.iter().enumerate() {
+        let opened = match number {
+            0 | 3 => raw::GROUP_OPEN,
+            _ => raw::GROUP_CLOSED,
+        };
+        assert_eq!(group.opened, opened, "{number}");
+    }
+    assert_eq!(state.running, raw::NO_THREAD);
+    assert_eq!(Scheduler::from_raw(*state), s);
+}
+
 #[test]
 fn meter_at_its_limit() {
     let mut state = *with(&[(1, 10)]).as_raw();

@@ -1,6 +1,7 @@
 //! The Rust declarations, in rustfmt's layout.
 
-use crate::interface::{refusal, Family, Form, Function, Interface, Pass, Struct};
+use crate::comment::refusal;
+use crate::interface::{Family, Form, Function, Interface, Pass, Struct};
 use crate::{wrapped, COMMAND};
 
 const WIDTH: usize = 80;
@@ -120,14 +121,14 @@ fn named(form: &Form) -> String {
 }
 
 fn function(f: &Function) -> String {
-    let mut out = docs("    ", &f.does);
+    let mut out = docs("    ", &f.comment.does);
     out += "    ///\n";
-    if f.refuses.is_empty() {
+    if f.comment.refuses.is_empty() {
         out += &docs("    ", "Refuses nothing.");
         out += "    ///\n";
     } else {
         out += &docs("    ", "Refuses, the first that applies:");
-        for (number, reason) in &f.refuses {
+        for (number, reason) in &f.comment.refuses {
             let name = refusal(*number).unwrap_or_default();
             let text = format!("{number} [`{name}`]: {reason}");
             for (i, line) in wrapped(&text, WIDTH - 10).iter().enumerate() {
@@ -137,7 +138,7 @@ fn function(f: &Function) -> String {
         }
         out += "    ///\n";
     }
-    out += &docs("    ", &f.leaves);
+    out += &docs("    ", &f.comment.leaves);
     let mut parameters = Vec::new();
     let mut unsafety = Vec::new();
     for (name, pass) in &f.parameters {

@@ -1,6 +1,7 @@
 //! The C header.
 
-use crate::interface::{c_name, refusal, Family, Form, Function, Interface, Pass, Struct};
+use crate::comment::refusal;
+use crate::interface::{c_name, Family, Form, Function, Interface, Pass, Struct};
 use crate::{wrapped, COMMAND};
 
 const WIDTH: usize = 80;
@@ -133,13 +134,13 @@ fn declared(form: &Form, name: &str) -> String {
 }
 
 fn function(f: &Function) -> String {
-    let mut lines = wrapped(&f.does, WIDTH - 3);
+    let mut lines = wrapped(&f.comment.does, WIDTH - 3);
     lines.push(String::new());
-    if f.refuses.is_empty() {
+    if f.comment.refuses.is_empty() {
         lines.push("Refuses nothing.".to_string());
     } else {
         lines.push("Refuses, the first that applies:".to_string());
-        for (number, reason) in &f.refuses {
+        for (number, reason) in &f.comment.refuses {
             let name = refusal(*number).unwrap_or_default();
             let text = format!("{number} {PREFIX}{name}: {reason}");
             for (i, line) in wrapped(&text, WIDTH - 9).iter().enumerate() {
@@ -148,7 +149,7 @@ fn function(f: &Function) -> String {
             }
         }
     }
-    lines.extend(wrapped(&f.leaves, WIDTH - 3));
+    lines.extend(wrapped(&f.comment.leaves, WIDTH - 3));
     let parameters: Vec<String> = f
         .parameters
         .iter()

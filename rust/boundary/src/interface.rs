@@ -6,7 +6,8 @@
 
 use std::collections::BTreeMap;
 
-use crate::names::{Value, FAMILIES, REFUSED, SECTIONS};
+use crate::comment::{comment, Comment};
+use crate::names::{Value, FAMILIES, SECTIONS};
 use crate::parse::{self, parse, File, Length, Path, Type};
 use crate::Error;
 
@@ -82,12 +83,7 @@ pub enum Pass {
 
 #[derive(Clone, Debug, PartialEq, Eq)]
 pub struct Function {
-    /// What it does.
-    pub does: String,
-    /// Numbers and reasons in the order of the checks.
-    pub refuses: Vec<(u64, String)>,
-    /// What is unchanged, after a refusal and otherwise.
-    pub leaves: String,
+    pub comment: Comment,
     pub name: String,
     pub parameters: Vec<(String, Pass)>,
     pub result: Option<Form>,
@@ -184,7 +180,6 @@ impl Work<'_> {
     }
 
     fn function(&mut self, file: &str, f: &parse::Function) -> Result<Function, Error> {
-        let (does, refuses, leaves) = described(file, f)?;
         let mut parameters = Vec::new();
         for parameter in &f.parameters {
             let pass = match &parameter.of {
@@ -205,9 +200,7 @@ impl Work<'_> {
             return Err(Error::at(file, f.line, text));
         }
         Ok(Function {
-            does,
-            refuses,
-            leaves,
+            comment: comment(file, f)?,
             name: f.name.clone(),
             parameters,
             result,
@@ -246,6 +239,7 @@ impl Work<'_> {
             let text = format!("`{}` has no fixed form at the boundary: {why}", of.shown());
             Error::at(file, line, text)
         };
+        let unknown = || Error::at(file, line, format!("the type `{}` is unknown", of.shown()));
         match of {
             Type::Slice { .. } => Err(refused("a slice is a parameter only")),
             Type::Other(_) => Err(refused("a number, a struct of numbers or a slice has")),
@@ -263,24 +257,13 @@ impl Work<'_> {
                         return Err(refused("a byte other than 0 and 1 is no bool; take u8"));
                     }
                 }
-                let Some((home, name)) = self.home(file, line, path)? else {
-                    return Err(Error::at(
-                        file,
-                        line,
-                        format!("the type `{}` is unknown", of.shown()),
-                    ));
-                };
+                let (home, name) = self.home(file, line, path)?.ok_or_else(unknown)?;
                 let there = &self.files[&home];
                 if there.enums.contains(&name) {
                     return Err(refused("it is an enum; take a struct of numbers"));
                 }
-                let Some(found) = there.structs.iter().find(|s| s.name == name).cloned() else {
-                    return Err(Error::at(
-                        file,
-                        line,
-                        format!("the type `{}` is unknown", of.shown()),
-                    ));
-                };
+                let found = there.structs.iter().find(|s| s.name == name).cloned();
+                let found = found.ok_or_else(unknown)?;
                 if !(found.fixed && found.public) {
                     return Err(refused("the struct is not `#[repr(C)] pub`"));
                 }
@@ -354,7 +337,11 @@ impl Work<'_> {
     /// Adds a struct, and before it those that it holds.
     fn structure(&mut self, file: &str, s: &parse::Struct) -> Result<(), Error> {
         match self.homes.get(&s.name) {
-            Some(home) if home == file => return Ok(()),
+            Some(home) if home == file => {
+                let done = self.found.structs.iter().any(|known| known.name == s.name);
+                let text = format!("the struct `{}` holds itself", s.name);
+                return done.then_some(()).ok_or(Error::at(file, s.line, text));
+            }
             Some(home) => {
                 let text = format!("{home} has a struct `{}` at the boundary too", s.name);
                 return Err(Error::at(file, s.line, text));
@@ -461,52 +448,6 @@ impl Work<'_> {
     }
 }
 
-/// A function's comment in its three parts: what it does; behind `Refused:`
-/// the refusals, each a number and its reason; what is unchanged.
-#[allow(clippy::type_complexity)]
-fn described(
-    file: &str,
-    f: &parse::Function,
-) -> Result<(String, Vec<(u64, String)>, String), Error> {
-    let error = |text: &str| {
-        let text = format!("the comment on {} {text}", f.name);
-        Error::at(file, f.line, text)
-    };
-    let text = f.doc.join(" ");
-    let Some((does, rest)) = text.split_once(" Refused: ") else {
-        return Err(error("does not say what is refused"));
-    };
-    let Some((list, leaves)) = rest.split_once(". ") else {
-        return Err(error("does not say what is unchanged"));
-    };
-    if !leaves.contains("unchanged") {
-        return Err(error("does not say what is unchanged"));
-    }
-    let mut refuses = Vec::new();
-    for part in list.split("; ").filter(|_| list != "nothing") {
-        let (number, reason) = part.split_once(", ").unwrap_or((part, ""));
-        let number: u64 = number.parse().map_err(|_| {
-            error(&format!(
-                "has `{part}` where a number and a reason should stand"
-            ))
-        })?;
-        if reason.is_empty() {
-            return Err(error(&format!("gives no reason for {number}")));
-        }
-        refusal(number).ok_or_else(|| error(&format!("has the unknown refusal {number}")))?;
-        refuses.push((number, reason.to_string()));
-    }
-    Ok((does.to_string(), refuses, leaves.to_string()))
-}
-
-/// The name of a refusal.
-pub fn refusal(number: u64) -> Option<&'static str> {
-    let names = FAMILIES.iter().flat_map(|f| f.names);
-    let mut refusals = names.filter(|n| n.0.starts_with(REFUSED));
-    let found = refusals.find(|n| matches!(n.1, Value::Number(value) if value == number));
-    found.map(|n| n.0)
-}
-
 /// `LagLine` in C: `mtr_lag_line`.
 pub fn c_name(name: &str) -> String {
     let mut text = "mtr".to_string();
@@ -549,6 +490,10 @@ pub struct Hidden {
     pub x: u32,
     y: u32,
 }
+#[repr(C)]
+pub struct Round { pub x: [Round; 1] }
+#[repr(C)]
+pub struct None {}
 ";
     const RUN: &str = "
 pub const TICK: u64 = 0;
@@ -584,7 +529,9 @@ pub extern \"C\" fn mtr_write(area: &mut [u8], list: Records) -> u32 {}
                 "crates/record/src/lib.rt" => {
                     "#[repr(C)] pub struct Record { pub kind: u8, pub ticks: u32 }"
                 }
-                "crates/replay/src/lib.rt" => "pub const BLOCK: usize = 512;",
+                "crates/replay/src/lib.rt" => {
+                    "pub const BLOCK: usize = 512;\nconst HALTED: u32 = 20;"
+                }
                 _ => return Err("no such file".to_string()),
             };
             Ok(text.to_string())
@@ -627,7 +574,7 @@ pub extern \"C\" fn mtr_write(area: &mut [u8], list: Records) -> u32 {}
     }
 
     #[test]
-    fn comments() {
+    fn slices() {
         let found = with("").unwrap();
         let [_, _, blocks] = &found.sections[..] else {
             panic!("{:?}", found.sections);
@@ -635,19 +582,21 @@ pub extern \"C\" fn mtr_write(area: &mut [u8], list: Records) -> u32 {}
         let [write] = &blocks.functions[..] else {
             panic!("{:?}", blocks.functions);
         };
-        assert_eq!(write.does, "Writes.");
-        assert_eq!(
-            write.refuses,
-            [(17, "too short".to_string()), (19, "no form".to_string())]
-        );
-        assert_eq!(write.leaves, "The area is then unchanged.");
         let element = Form::Number(NUMBERS[0]);
+        let slice = Pass::Slice {
+            mutable: true,
+            element,
+        };
+        assert_eq!(write.parameters[0], ("area".to_string(), slice));
+        assert_eq!(write.comment.does, "Writes.");
+    }
+
+    #[test]
+    fn a_comment_is_needed() {
+        let found = with("#[no_mangle]\npub extern \"C\" fn mtr_do() {}");
         assert_eq!(
-            write.parameters[0].1,
-            Pass::Slice {
-                mutable: true,
-                element
-            }
+            found.unwrap_err().to_string(),
+            "crates/abi/src/calls.rt:2: the comment on mtr_do does not say what is refused"
         );
     }
 
@@ -687,12 +636,24 @@ pub extern \"C\" fn mtr_write(area: &mut [u8], list: Records) -> u32 {}
                 format!("`&[u8]` {no}a slice is a parameter only"),
             ),
             (
+                "x: [Scheduler; N]",
+                "the length `N` is no number of this file".to_string(),
+            ),
+            (
                 "x: nowhere::Thing",
                 "crates/nowhere/src/lib.rt can't be read: no such file".to_string(),
             ),
         ] {
             assert_eq!(said(parameter), format!("{at}{wanted}"));
         }
+        assert_eq!(
+            said("x: scheduler::Round"),
+            "crates/scheduler/src/lib.rt:28: the struct `Round` holds itself"
+        );
+        assert_eq!(
+            said("x: scheduler::None"),
+            "crates/scheduler/src/lib.rt:30: the struct `None` is empty"
+        );
         assert_eq!(
             said("x: scheduler::Hidden"),
             "crates/scheduler/src/lib.rt:25: the field `y` of a struct at the boundary is private"
@@ -718,40 +679,6 @@ pub extern \"C\" fn mtr_write(area: &mut [u8], list: Records) -> u32 {}
             with(&text).unwrap_err().to_string(),
             "crates/abi/src/calls.rt:3: the name other does not begin with mtr_"
         );
-    }
-
-    #[test]
-    fn comments_that_leave_something_out() {
-        let said = |doc: &str| {
-            let text = format!("// {doc}\n#[no_mangle]\npub extern \"C\" fn mtr_do() {{}}");
-            with(&text).unwrap_err().to_string()
-        };
-        let at = "crates/abi/src/calls.rt:3: the comment on mtr_do ";
-        for (doc, wanted) in [
-            ("Does.", "does not say what is refused"),
-            (
-                "Does. Refused: 16, unsound.",
-                "does not say what is unchanged",
-            ),
-            (
-                "Does. Refused: 16, unsound. The end.",
-                "does not say what is unchanged",
-            ),
-            (
-                "Does. Refused: 16; 2, no. It is unchanged.",
-                "gives no reason for 16",
-            ),
-            (
-                "Does. Refused: 77, no. It is unchanged.",
-                "has the unknown refusal 77",
-            ),
-            (
-                "Does. Refused: 16, a; b. It is unchanged.",
-                "has `b` where a number and a reason should stand",
-            ),
-        ] {
-            assert_eq!(said(doc), format!("{at}{wanted}"));
-        }
     }
 
     #[test]

@@ -3,6 +3,7 @@
 //!
 //! - [`tokens`]: a source as tokens and comments.
 //! - [`parse`]: the structs, constants and exported functions of a source.
+//! - [`comment`]: the parts that a function's comment must have.
 //! - [`names`]: the names that the constants have outside.
 //! - [`interface`]: all of it resolved, with sizes and offsets; what has no
 //!   fixed form at the boundary is refused with file and line.
@@ -10,6 +11,7 @@
 
 #![forbid(unsafe_code)]
 
+pub mod comment;
 pub mod declarations;
 pub mod header;
 pub mod interface;

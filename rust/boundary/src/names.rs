@@ -73,7 +73,11 @@ pub const FAMILIES: [Family; 9] = [
                 constant(SCHEDULER, "Scheduler::GROUPS"),
                 "Most groups; their numbers begin at 0.",
             ),
-            ("BLOCK_BYTES", constant(REPLAY, "BLOCK"), "Bytes of an event block."),
+            (
+                "BLOCK_BYTES",
+                constant(REPLAY, "BLOCK"),
+                "Bytes of an event block.",
+            ),
             (
                 "RECORDS",
                 Value::Length {
@@ -136,8 +140,16 @@ pub const FAMILIES: [Family; 9] = [
                 constant(SCHEDULER, "Scheduler::METER_MOST"),
                 "The greatest meter of a sound state.",
             ),
-            ("LOWEST_PRIORITY", constant(PRIORITY, "LOWEST"), "The lowest priority."),
-            ("HIGHEST_PRIORITY", constant(PRIORITY, "HIGHEST"), "The highest priority."),
+            (
+                "LOWEST_PRIORITY",
+                constant(PRIORITY, "LOWEST"),
+                "The lowest priority.",
+            ),
+            (
+                "HIGHEST_PRIORITY",
+                constant(PRIORITY, "HIGHEST"),
+                "The highest priority.",
+            ),
         ],
     },
     Family {
@@ -146,7 +158,11 @@ pub const FAMILIES: [Family; 9] = [
         choice: true,
         names: &[
             ("ACCEPTED", number(0), "The call is accepted."),
-            ("REFUSED_SETTINGS", number(1), "m or P is outside its range."),
+            (
+                "REFUSED_SETTINGS",
+                number(1),
+                "m or P is outside its range.",
+            ),
             (
                 "REFUSED_NO_GROUP",
                 number(2),
@@ -167,7 +183,11 @@ pub const FAMILIES: [Family; 9] = [
                 number(5),
                 "The ceiling or reservation exceeds what the group has free.",
             ),
-            ("REFUSED_GROUP_IN_USE", number(6), "The group has a thread or a child."),
+            (
+                "REFUSED_GROUP_IN_USE",
+                number(6),
+                "The group has a thread or a child.",
+            ),
             (
                 "REFUSED_NO_THREAD",
                 number(7),
@@ -178,20 +198,40 @@ pub const FAMILIES: [Family; 9] = [
                 number(8),
                 "The thread is already admitted.",
             ),
-            ("REFUSED_THREAD_RUNNING", number(9), "The thread to remove is running."),
-            ("REFUSED_NOT_BLOCKED", number(10), "The thread to wake is not blocked."),
+            (
+                "REFUSED_THREAD_RUNNING",
+                number(9),
+                "The thread to remove is running.",
+            ),
+            (
+                "REFUSED_NOT_BLOCKED",
+                number(10),
+                "The thread to wake is not blocked.",
+            ),
             ("REFUSED_NOTHING_RUNNING", number(11), "Nothing is running."),
             ("REFUSED_BUSY", number(12), "A thread is running."),
-            ("REFUSED_OVER_SLICE", number(13), "More is used than the slice."),
+            (
+                "REFUSED_OVER_SLICE",
+                number(13),
+                "More is used than the slice.",
+            ),
             ("REFUSED_REASON", number(14), "The reason is above 3."),
-            ("REFUSED_METER_FULL", number(15), "The meter is at its limit."),
+            (
+                "REFUSED_METER_FULL",
+                number(15),
+                "The meter is at its limit.",
+            ),
             ("REFUSED_UNSOUND", number(16), "The state is not sound."),
             (
                 "REFUSED_LENGTH",
                 number(17),
                 "The area is not 512 bytes, or the table is too short.",
             ),
-            ("REFUSED_CHECK", number(18), "The check of the block is wrong."),
+            (
+                "REFUSED_CHECK",
+                number(18),
+                "The check of the block is wrong.",
+            ),
             (
                 "REFUSED_FORM",
                 number(19),
@@ -199,8 +239,8 @@ pub const FAMILIES: [Family; 9] = [
             ),
             (
                 "REFUSED_NOT_STARTED",
-                number(20),
-                "Only in what mtrrun prints: a record after a refused block and before the next accepted start.",
+                constant(REPLAY, "HALTED"),
+                "In what mtrrun prints alone: no start is accepted since a refused block.",
             ),
         ],
     },
@@ -209,14 +249,26 @@ pub const FAMILIES: [Family; 9] = [
         of: "u64",
         choice: true,
         names: &[
-            ("REASON_TICK", constant(RUN, "TICK"), "The thread stays runnable."),
-            ("REASON_BLOCK", constant(RUN, "BLOCK"), "It blocks until it is woken."),
+            (
+                "REASON_TICK",
+                constant(RUN, "TICK"),
+                "The thread stays runnable.",
+            ),
+            (
+                "REASON_BLOCK",
+                constant(RUN, "BLOCK"),
+                "It blocks until it is woken.",
+            ),
             (
                 "REASON_YIELD",
                 constant(RUN, "YIELD"),
                 "Its allotment is filled and it moves to the rear.",
             ),
-            ("REASON_EXIT", constant(RUN, "EXIT"), "It leaves the list and frees its number."),
+            (
+                "REASON_EXIT",
+                constant(RUN, "EXIT"),
+                "It leaves the list and frees its number.",
+            ),
         ],
     },
     Family {
@@ -225,8 +277,16 @@ pub const FAMILIES: [Family; 9] = [
         choice: true,
         names: &[
             ("STATUS_FREE", number(0), "The number is not admitted."),
-            ("STATUS_RUNNABLE", constant(RUN, "Thread::RUNNABLE"), "Runnable or running."),
-            ("STATUS_BLOCKED", constant(RUN, "Thread::BLOCKED"), "Blocked."),
+            (
+                "STATUS_RUNNABLE",
+                constant(RUN, "Thread::RUNNABLE"),
+                "Runnable or running.",
+            ),
+            (
+                "STATUS_BLOCKED",
+                constant(RUN, "Thread::BLOCKED"),
+                "Blocked.",
+            ),
         ],
     },
     Family {

@@ -181,24 +181,41 @@ fn links_from_c() {
     );
 }
 
+/// A project with the folder in vendor/mtr, which makes the crate a member of
+/// the project's workspace.
 #[test]
 fn links_from_rust() {
-    let folder = filled("dist-rust");
-    let above = folder.parent().unwrap();
-    let user = above.join("user");
-    fs::create_dir_all(user.join("src")).unwrap();
-    let manifest = "[package]\nname = \"user\"\nversion = \"0.1.0\"\nedition = \"2021\"\n\n[workspace]\n\n[dependencies]\nbinding = { path = \"../dist/rust\" }\n";
-    fs::write(user.join("Cargo.toml"), manifest).unwrap();
-    let program = "use binding::{Refusal, Scheduler};\n\nfn main() -> Result<(), Refusal> {\n    let mut s = Scheduler::default();\n    s.admit(5, 0, 500)?;\n    println!(\"{:?} {:?}\", s.admit(7, 0, 501), s.dispatch()?);\n    Ok(())\n}\n";
-    fs::write(user.join("src/main.rs"), program).unwrap();
+    let project = folder("dist-rust");
+    let output = dist(&boundary::root(), &project.join("vendor/mtr"));
+    assert!(output.status.success(), "{}", said(&output));
+    let manifest = "[package]
+name = \"project\"
+version = \"0.1.0\"
+edition = \"2021\"
+
+[workspace]
+
+[dependencies]
+binding = { path = \"vendor/mtr/rust\" }
+";
+    let program = "use binding::{Refusal, Scheduler};
+
+fn main() -> Result<(), Refusal> {
+    let mut s = Scheduler::default();
+    s.admit(5, 0, 500)?;
+    println!(\"{:?} {:?}\", s.admit(7, 0, 501), s.dispatch()?);
+    Ok(())
+}
+";
+    fs::write(project.join("Cargo.toml"), manifest).unwrap();
+    fs::create_dir(project.join("src")).unwrap();
+    fs::write(project.join("src/main.rs"), program).unwrap();
     let cargo = std::env::var("CARGO").unwrap_or("cargo".to_string());
     let mut build = Command::new(cargo);
-    build
-        .args(["run", "--quiet", "--offline", "-j1"])
-        .current_dir(&user);
-    build.env("CARGO_TARGET_DIR", user.join("target"));
+    build.args(["run", "--quiet", "--offline", "-j1"]);
+    build.env("CARGO_TARGET_DIR", project.join("target"));
     let wanted = "Err(NoRoom) Run { thread: 5, slice: 20000, passed: 0 }\n";
-    assert_eq!(printed(&mut build), wanted);
+    assert_eq!(printed(build.current_dir(&project)), wanted);
 }
 
 /// A second run replaces the folder whole.
@@ -223,12 +240,7 @@ fn failures_leave_the_folder() {
     for part in ["target/staticlib", "include", "rust/binding/src"] {
         fs::create_dir_all(root.join(part)).unwrap();
     }
-    for part in [
-        "dist.sh",
-        "include/mtr.h",
-        "rust/binding/Cargo.toml",
-        "rust/binding/build.rs",
-    ] {
+    for part in ["dist.sh", "include/mtr.h", "rust/binding/build.rs"] {
         fs::copy(boundary::root().join(part), root.join(part)).unwrap();
     }
     let target = above.join("dist");
@@ -271,10 +283,21 @@ fn failures_leave_the_folder() {
     refused("needs puts");
     assert!(!target.exists());
 
-    // What is missing later: the header, with an earlier folder in place.
+    // What is missing later: the header, with an earlier folder in place. In its
+    // manifest nothing is left of what the tests need.
     fs::copy(boundary::root().join("target/staticlib/libabi.a"), &archive).unwrap();
+    let package = "[package]\nname = \"binding\"\n\n";
+    let tests = "[dev-dependencies]\nmodel = { path = \"../model\" }\n\n[[test]]\nname = \"a\"\n\n";
+    let library = "[lib]\ndoctest = false\n";
+    fs::write(
+        root.join("rust/binding/Cargo.toml"),
+        [package, tests, library].concat(),
+    )
+    .unwrap();
     let output = dist(&root, &target);
     assert!(output.status.success(), "{}", said(&output));
+    let manifest = fs::read_to_string(target.join("rust/Cargo.toml")).unwrap();
+    assert_eq!(manifest, [package, library].concat());
     let earlier = files(&target);
     fs::remove_file(root.join("include/mtr.h")).unwrap();
     refused("can't fill");
