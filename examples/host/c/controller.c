@@ -186,7 +186,7 @@ static void admit_task(host *h, world *w, unsigned n)
     begin_burst(w, n);
 }
 
-/* Power-up, with the mistakes that a host can make: each is refused and changes nothing. */
+/* Power-up, and mistakes that a host can make: each of those is refused and changes nothing. */
 static void boot(host *h, world *w)
 {
     start(h, 0, MTR_DEFAULT_INTERVAL);

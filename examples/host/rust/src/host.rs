@@ -1,14 +1,15 @@
 //! The scheduler with its journal.
 
-use std::io::{self, Write};
+use std::fs::File;
+use std::io::{self, stdout, BufWriter, Stdout, Write};
 
 use binding::{blocks, Dispatch, Entry, Event, Refusal, Scheduler, ThreadState};
 
 /// Makes calls, journals each one and prints its answer.
-pub struct Host<J, O> {
+pub struct Host {
     scheduler: Scheduler,
-    journal: J,
-    out: O,
+    journal: BufWriter<File>,
+    out: BufWriter<Stdout>,
     /// Events of the block that is being filled, and its number.
     events: Vec<Event>,
     block: u32,
@@ -16,12 +17,12 @@ pub struct Host<J, O> {
     record: u64,
 }
 
-impl<J: Write, O: Write> Host<J, O> {
-    pub fn new(journal: J, out: O) -> Host<J, O> {
+impl Host {
+    pub fn new(journal: File) -> Host {
         Host {
             scheduler: Scheduler::default(),
-            journal,
-            out,
+            journal: BufWriter::new(journal),
+            out: BufWriter::new(stdout()),
             events: Vec::with_capacity(blocks::RECORDS),
             block: 0,
             record: 0,
@@ -50,6 +51,11 @@ impl<J: Write, O: Write> Host<J, O> {
         writeln!(self.out, "{record} {number} {thread} {slice} {before}")?;
         self.record += 1;
         Ok(answer)
+    }
+
+    /// Makes a call that the host relies on: a refusal is an error.
+    pub fn accepted(&mut self, event: Event) -> io::Result<Option<Dispatch>> {
+        self.call(event)?.map_err(io::Error::other)
     }
 
     /// Writes the events held as the next block.

@@ -18,7 +18,6 @@ mod world;
 
 use std::error::Error;
 use std::fs::File;
-use std::io::{stdout, BufWriter, Write};
 use std::process::ExitCode;
 
 use host::Host;
@@ -46,10 +45,7 @@ fn run() -> Result<(), Box<dyn Error>> {
     let (Ok(seed), Ok(milliseconds @ 0..=1_000_000)) = (seed, milliseconds) else {
         return Err(USAGE.into());
     };
-    let mut out = BufWriter::new(stdout().lock());
-    let mut host = Host::new(BufWriter::new(File::create(journal)?), &mut out);
+    let mut host = Host::new(File::create(journal)?);
     World::new(seed).simulate(&mut host, 1000 * milliseconds)?;
-    host.finish()?;
-    out.flush()?;
-    Ok(())
+    Ok(host.finish()?)
 }

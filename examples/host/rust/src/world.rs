@@ -1,6 +1,6 @@
 //! The simulated threads and the loop.
 
-use std::io::{self, Write};
+use std::io;
 
 use binding::{Dispatch, Event, Reason, Settings};
 
@@ -94,11 +94,7 @@ impl World {
     }
 
     /// The loop: wake who is due, dispatch, run, report.
-    pub fn simulate<J: Write, O: Write>(
-        &mut self,
-        host: &mut Host<J, O>,
-        end: u64,
-    ) -> io::Result<()> {
+    pub fn simulate(&mut self, host: &mut Host, end: u64) -> io::Result<()> {
         self.boot(host)?;
         let mut connected = false;
         let mut dispatches = 0;
@@ -110,12 +106,11 @@ impl World {
             for thread in 0..TASKS.len() {
                 if self.due[thread].is_some_and(|due| due <= self.clock) {
                     let thread = thread as u8;
-                    host.call(Event::Wake { thread })?
-                        .map_err(io::Error::other)?;
+                    host.accepted(Event::Wake { thread })?;
                     self.due[thread as usize] = None;
                 }
             }
-            match host.call(Event::Dispatch)?.map_err(io::Error::other)? {
+            match host.accepted(Event::Dispatch)? {
                 Some(Dispatch::Run { thread, slice, .. }) => {
                     dispatches += 1;
                     if dispatches % 16 == 0 {
@@ -134,9 +129,9 @@ impl World {
         Ok(())
     }
 
-    /// Power-up, with the mistakes that a host can make: each is refused and
-    /// changes nothing.
-    fn boot<J: Write, O: Write>(&mut self, host: &mut Host<J, O>) -> io::Result<()> {
+    /// Power-up, and mistakes that a host can make: each of those is refused
+    /// and changes nothing.
+    fn boot(&mut self, host: &mut Host) -> io::Result<()> {
         let settings = Settings::default();
         let lab = Event::Open {
             group: LAB,
@@ -194,7 +189,7 @@ impl World {
 
     /// The lab's network is set up again: its threads and its group go and come
     /// back.
-    fn reconnect<J: Write, O: Write>(&mut self, host: &mut Host<J, O>) -> io::Result<()> {
+    fn reconnect(&mut self, host: &mut Host) -> io::Result<()> {
         for event in [
             Event::Remove { thread: VIEWER },
             Event::Remove { thread: EXPORTER },
@@ -205,20 +200,20 @@ impl World {
                 ceiling: LAB_CEILING,
             },
         ] {
-            host.call(event)?.map_err(io::Error::other)?;
+            host.accepted(event)?;
         }
         self.admit(host, VIEWER)?;
         self.admit(host, EXPORTER)
     }
 
-    fn admit<J: Write, O: Write>(&mut self, host: &mut Host<J, O>, thread: u8) -> io::Result<()> {
+    fn admit(&mut self, host: &mut Host, thread: u8) -> io::Result<()> {
         let task = &TASKS[thread as usize];
         let event = Event::Admit {
             thread,
             group: task.group,
             reservation: task.reservation,
         };
-        host.call(event)?.map_err(io::Error::other)?;
+        host.accepted(event)?;
         self.begin_burst(thread as usize);
         Ok(())
     }
@@ -230,12 +225,7 @@ impl World {
 
     /// Runs the thread until its slice or its burst ends or another is to be
     /// woken, and reports.
-    fn run<J: Write, O: Write>(
-        &mut self,
-        host: &mut Host<J, O>,
-        thread: u8,
-        slice: u32,
-    ) -> io::Result<()> {
+    fn run(&mut self, host: &mut Host, thread: u8, slice: u32) -> io::Result<()> {
         let n = thread as usize;
         let task = &TASKS[n];
         let mut used = slice.min(self.left[n].unwrap_or(u32::MAX));
@@ -254,7 +244,7 @@ impl World {
             reason: reason.number(),
             used,
         };
-        host.call(event)?.map_err(io::Error::other)?;
+        host.accepted(event)?;
         if reason != Reason::Tick {
             self.begin_burst(n);
         }
@@ -282,7 +272,7 @@ impl World {
 }
 
 /// What a confused driver does while a thread runs: all of it is refused.
-fn confuse<J: Write, O: Write>(host: &mut Host<J, O>, running: u8, slice: u32) -> io::Result<()> {
+fn confuse(host: &mut Host, running: u8, slice: u32) -> io::Result<()> {
     for event in [
         Event::Dispatch,
         Event::Wake { thread: running },
