@@ -1,0 +1,341 @@
+/*
+ * A controller's main loop on a virtual clock, in C: readout, pumps, the lab's viewer and an exporter that waits for a
+ * server whose replies come sooner or later. Every call of the scheduler is journalled into event blocks.
+ *
+ *     cc -std=c11 -O2 -Iinclude examples/host/c/controller.c target/staticlib/libabi.a -o controller
+ *     ./controller SEED JOURNAL [MILLISECONDS]
+ *
+ * Standard output has a line for each call, as mtrrun prints it for the call's record (number, answer, thread, slice,
+ * threads before it), and at the end the roster. `target/bin/mtrrun < JOURNAL` prints the same lines but for the roster.
+ * examples/host/rust is the same host in Rust.
+ */
+#include <errno.h>
+#include <inttypes.h>
+#include <stdio.h>
+#include <stdlib.h>
+
+#include "mtr.h"
+
+/* ---- the scheduler and its journal ---- */
+
+typedef struct host {
+    mtr_scheduler state;
+    FILE *journal;
+    /* The block that is being filled, its number, and the number of the next record. */
+    mtr_records list;
+    size_t count;
+    uint32_t block;
+    uint64_t record;
+} host;
+
+static _Noreturn void fail(const char *what)
+{
+    fprintf(stderr, "controller: %s\n", what);
+    exit(EXIT_FAILURE);
+}
+
+/* Writes the records held as the next block. */
+static void flush_block(host *h)
+{
+    uint8_t area[MTR_BLOCK_BYTES];
+    if (mtr_write_block(area, sizeof area, h->block, h->list, h->count) != MTR_ACCEPTED)
+        fail("a record has no form");
+    if (fwrite(area, sizeof area, 1, h->journal) != 1)
+        fail("the journal cannot be written");
+    h->block += 1;
+    h->count = 0;
+}
+
+/* The call that a record stands for. */
+static mtr_reply make(mtr_scheduler state, mtr_record r)
+{
+    switch (r.kind) {
+    case MTR_KIND_OPEN:
+        return mtr_open(state, r.subject, r.group, r.amount);
+    case MTR_KIND_CLOSE:
+        return mtr_close(state, r.subject);
+    case MTR_KIND_ADMIT:
+        return mtr_admit(state, r.subject, r.group, r.amount);
+    case MTR_KIND_REMOVE:
+        return mtr_remove(state, r.subject);
+    case MTR_KIND_WAKE:
+        return mtr_wake(state, r.subject);
+    case MTR_KIND_DISPATCH:
+        return mtr_dispatch(state);
+    case MTR_KIND_REPORT:
+        return mtr_report(state, r.reason, r.ticks);
+    default:
+        return mtr_start(r.amount, r.ticks);
+    }
+}
+
+/* Makes a call, journals it and prints its answer. */
+static mtr_reply call(host *h, mtr_record r)
+{
+    mtr_reply reply = make(h->state, r);
+    /* A refused call hands the same state back; a refused start has none to hand back. */
+    if (r.kind != MTR_KIND_START || reply.answer == MTR_ACCEPTED)
+        h->state = reply.state;
+    h->list.records[h->count] = r;
+    h->count += 1;
+    if (h->count == MTR_RECORDS)
+        flush_block(h);
+    printf("%" PRIu64 " %" PRIu32 " %" PRIu32 " %" PRIu32 " %" PRIu32 "\n", h->record, reply.answer, reply.thread,
+        reply.slice, reply.before);
+    h->record += 1;
+    return reply;
+}
+
+static void start(host *h, uint16_t thousandth, uint32_t interval)
+{
+    call(h, (mtr_record){ .kind = MTR_KIND_START, .amount = thousandth, .ticks = interval });
+}
+
+static void open_group(host *h, uint8_t group, uint8_t parent, uint16_t ceiling)
+{
+    call(h, (mtr_record){ .kind = MTR_KIND_OPEN, .subject = group, .group = parent, .amount = ceiling });
+}
+
+static void close_group(host *h, uint8_t group)
+{
+    call(h, (mtr_record){ .kind = MTR_KIND_CLOSE, .subject = group });
+}
+
+static void admit(host *h, uint8_t thread, uint8_t group, uint16_t reservation)
+{
+    call(h, (mtr_record){ .kind = MTR_KIND_ADMIT, .subject = thread, .group = group, .amount = reservation });
+}
+
+static void remove_thread(host *h, uint8_t thread)
+{
+    call(h, (mtr_record){ .kind = MTR_KIND_REMOVE, .subject = thread });
+}
+
+static void wake(host *h, uint8_t thread)
+{
+    call(h, (mtr_record){ .kind = MTR_KIND_WAKE, .subject = thread });
+}
+
+static mtr_reply dispatch(host *h)
+{
+    return call(h, (mtr_record){ .kind = MTR_KIND_DISPATCH });
+}
+
+static void report(host *h, uint8_t reason, uint32_t used)
+{
+    call(h, (mtr_record){ .kind = MTR_KIND_REPORT, .reason = reason, .ticks = used });
+}
+
+/* ---- the simulated threads ---- */
+
+enum { READOUT, PUMPS, VIEWER, EXPORTER, SELF_TEST, TASKS };
+
+/* The lab's side of the controller, in a group of its own. */
+enum { LAB = 1, LAB_CEILING = 300 };
+
+/*
+ * A thread works for a burst of ticks, ends it for the reason given and, if it blocked, is woken after a pause. One pause of
+ * eight is longer by the factor `late`. A burst of 0 never ends.
+ */
+typedef struct task {
+    uint8_t group;
+    uint16_t reservation;
+    uint32_t burst_low, burst_high;
+    uint8_t reason;
+    uint32_t pause_low, pause_high, late;
+} task;
+
+static const task tasks[TASKS] = {
+    [READOUT] = { 0, 500, 0, 0, MTR_REASON_TICK, 0, 0, 1 },
+    [PUMPS] = { 0, 100, 600, 900, MTR_REASON_BLOCK, 10000, 10000, 1 },
+    [VIEWER] = { LAB, 100, 3000, 8000, MTR_REASON_YIELD, 0, 0, 1 },
+    [EXPORTER] = { LAB, 100, 1500, 4000, MTR_REASON_BLOCK, 200, 3000, 10 },
+    [SELF_TEST] = { 0, 50, 5000, 5000, MTR_REASON_EXIT, 0, 0, 1 },
+};
+
+static const uint64_t NEVER = UINT64_MAX;
+
+typedef struct world {
+    uint64_t clock;
+    uint64_t random;
+    /* Ticks left of each task's burst, and when it is woken. */
+    uint32_t left[TASKS];
+    uint64_t due[TASKS];
+} world;
+
+/* SplitMix64, from low to high. */
+static uint32_t between(world *w, uint32_t low, uint32_t high)
+{
+    w->random += UINT64_C(0x9e3779b97f4a7c15);
+    uint64_t z = w->random;
+    z = (z ^ (z >> 30)) * UINT64_C(0xbf58476d1ce4e5b9);
+    z = (z ^ (z >> 27)) * UINT64_C(0x94d049bb133111eb);
+    z ^= z >> 31;
+    return low + (uint32_t)(z % (high - low + 1));
+}
+
+static void begin_burst(world *w, unsigned n)
+{
+    w->left[n] = tasks[n].burst_high == 0 ? UINT32_MAX : between(w, tasks[n].burst_low, tasks[n].burst_high);
+    w->due[n] = NEVER;
+}
+
+static void admit_task(host *h, world *w, unsigned n)
+{
+    admit(h, (uint8_t)n, tasks[n].group, tasks[n].reservation);
+    begin_burst(w, n);
+}
+
+/* Power-up, and mistakes that a host can make: each of those is refused and changes nothing. */
+static void boot(host *h, world *w)
+{
+    start(h, 0, MTR_DEFAULT_INTERVAL);
+    start(h, MTR_DEFAULT_THOUSANDTH, MTR_DEFAULT_INTERVAL);
+    dispatch(h);
+    report(h, MTR_REASON_TICK, 1);
+    open_group(h, LAB, 2, LAB_CEILING);
+    open_group(h, LAB, 0, LAB_CEILING);
+    open_group(h, LAB, 0, LAB_CEILING);
+    open_group(h, 2, 0, 1001);
+    for (unsigned n = 0; n < TASKS; n++)
+        admit_task(h, w, n);
+    admit(h, READOUT, 0, 1);
+    admit(h, MTR_THREADS, 0, 1);
+    admit(h, TASKS, LAB, LAB_CEILING);
+    close_group(h, LAB);
+}
+
+/* The lab's network is set up again: its threads and its group go and come back. */
+static void reconnect(host *h, world *w)
+{
+    remove_thread(h, VIEWER);
+    remove_thread(h, EXPORTER);
+    close_group(h, LAB);
+    open_group(h, LAB, 0, LAB_CEILING);
+    admit_task(h, w, VIEWER);
+    admit_task(h, w, EXPORTER);
+}
+
+/* What a confused driver does while a thread runs: all of it is refused. */
+static void confuse(host *h, uint8_t running, uint32_t slice)
+{
+    dispatch(h);
+    wake(h, running);
+    remove_thread(h, running);
+    report(h, MTR_REASON_EXIT + 1, 0);
+    report(h, MTR_REASON_TICK, slice + 1);
+}
+
+static uint64_t next_due(const world *w)
+{
+    uint64_t next = NEVER;
+    for (unsigned n = 0; n < TASKS; n++)
+        if (w->due[n] < next)
+            next = w->due[n];
+    return next;
+}
+
+/* Runs the thread until its slice or its burst ends or another is to be woken, and reports. */
+static void run(host *h, world *w, unsigned n, uint32_t slice)
+{
+    const task *t = &tasks[n];
+    uint32_t used = slice < w->left[n] ? slice : w->left[n];
+    uint64_t next = next_due(w);
+    if (next - w->clock < used)
+        used = (uint32_t)(next - w->clock);
+    w->clock += used;
+    if (t->burst_high == 0) {
+        report(h, MTR_REASON_TICK, used);
+        return;
+    }
+    w->left[n] -= used;
+    if (w->left[n] > 0) {
+        report(h, MTR_REASON_TICK, used);
+        return;
+    }
+    report(h, t->reason, used);
+    begin_burst(w, n);
+    if (t->reason == MTR_REASON_BLOCK) {
+        uint32_t pause = between(w, t->pause_low, t->pause_high);
+        w->due[n] = w->clock + pause * (between(w, 0, 7) == 0 ? t->late : 1);
+    }
+}
+
+static void simulate(host *h, world *w, uint64_t end)
+{
+    boot(h, w);
+    int connected = 0;
+    uint64_t dispatches = 0;
+    while (w->clock < end) {
+        if (!connected && w->clock >= end / 2) {
+            reconnect(h, w);
+            connected = 1;
+        }
+        for (unsigned n = 0; n < TASKS; n++) {
+            if (w->due[n] <= w->clock) {
+                wake(h, (uint8_t)n);
+                w->due[n] = NEVER;
+            }
+        }
+        mtr_reply choice = dispatch(h);
+        if (choice.answer != MTR_ACCEPTED)
+            fail("a dispatch is refused");
+        if (choice.thread == MTR_NO_THREAD) {
+            /* Readout is always runnable, so this host is never idle after power-up. Others sleep until the next wake. */
+            w->clock = next_due(w);
+            continue;
+        }
+        dispatches += 1;
+        if (dispatches % 16 == 0)
+            confuse(h, (uint8_t)choice.thread, choice.slice);
+        run(h, w, choice.thread, choice.slice);
+    }
+}
+
+static void print_roster(const host *h)
+{
+    static const char *const states[] = { "runnable", "blocked", "running" };
+    mtr_entry table[MTR_THREADS];
+    if (mtr_roster(h->state, table, MTR_THREADS) != MTR_ACCEPTED)
+        fail("the roster is refused");
+    for (uint32_t i = 0; i < h->state.count; i++)
+        printf("roster %" PRIu32 " %s %" PRIu32 " %" PRId64 " %" PRIu32 "\n", table[i].number, states[table[i].state],
+            table[i].allotment, table[i].lag, table[i].share);
+}
+
+/* Reads a whole number, decimal. */
+static int number(const char *word, uint64_t *value)
+{
+    char *end;
+    if (*word < '0' || *word > '9')
+        return 0;
+    errno = 0;
+    *value = strtoull(word, &end, 10);
+    return *end == '\0' && errno == 0;
+}
+
+int main(int argc, char **argv)
+{
+    uint64_t seed, milliseconds = 1000;
+    if (argc < 3 || argc > 4 || !number(argv[1], &seed) || (argc == 4 && !number(argv[3], &milliseconds)) ||
+        milliseconds > 1000000)
+        fail("usage: controller SEED JOURNAL [MILLISECONDS, at most 1000000]");
+    static host h;
+    static world w;
+    h.state = mtr_start(MTR_DEFAULT_THOUSANDTH, MTR_DEFAULT_INTERVAL).state;
+    h.journal = fopen(argv[2], "wb");
+    if (h.journal == NULL)
+        fail("the journal cannot be opened");
+    w.random = seed;
+    for (unsigned n = 0; n < TASKS; n++)
+        w.due[n] = NEVER;
+    simulate(&h, &w, 1000 * milliseconds);
+    if (h.count > 0)
+        flush_block(&h);
+    if (fclose(h.journal) != 0)
+        fail("the journal cannot be written");
+    print_roster(&h);
+    if (fflush(stdout) != 0)
+        fail("standard output cannot be written");
+    return EXIT_SUCCESS;
+}

@@ -1,0 +1,94 @@
+//! The scheduler with its journal.
+
+use std::fs::File;
+use std::io::{self, stdout, BufWriter, Stdout, Write};
+
+use binding::{blocks, Dispatch, Entry, Event, Refusal, Scheduler, ThreadState};
+
+/// Makes calls, journals each one and prints its answer.
+pub struct Host {
+    scheduler: Scheduler,
+    journal: BufWriter<File>,
+    out: BufWriter<Stdout>,
+    /// Events of the block that is being filled, and its number.
+    events: Vec<Event>,
+    block: u32,
+    /// Number of the next record.
+    record: u64,
+}
+
+impl Host {
+    pub fn new(journal: File) -> Host {
+        Host {
+            scheduler: Scheduler::default(),
+            journal: BufWriter::new(journal),
+            out: BufWriter::new(stdout()),
+            events: Vec::with_capacity(blocks::RECORDS),
+            block: 0,
+            record: 0,
+        }
+    }
+
+    /// Makes the event's call. The error is the journal's or the output's; what
+    /// the scheduler answers is the value.
+    pub fn call(&mut self, event: Event) -> io::Result<Result<Option<Dispatch>, Refusal>> {
+        let answer = self.scheduler.call(event);
+        self.events.push(event);
+        if self.events.len() == blocks::RECORDS {
+            self.flush_block()?;
+        }
+        let (number, thread, slice, before) = match answer {
+            Err(refusal) => (refusal.number(), 0, 0, 0),
+            Ok(None) => (0, 0, 0, 0),
+            Ok(Some(Dispatch::Idle { passed })) => (0, 64, 0, passed),
+            Ok(Some(Dispatch::Run {
+                thread,
+                slice,
+                passed,
+            })) => (0, thread, slice, passed),
+        };
+        let record = self.record;
+        writeln!(self.out, "{record} {number} {thread} {slice} {before}")?;
+        self.record += 1;
+        Ok(answer)
+    }
+
+    /// Makes a call that the host relies on: a refusal is an error.
+    pub fn accepted(&mut self, event: Event) -> io::Result<Option<Dispatch>> {
+        self.call(event)?.map_err(io::Error::other)
+    }
+
+    /// Writes the events held as the next block.
+    fn flush_block(&mut self) -> io::Result<()> {
+        let mut area = [0; blocks::BYTES];
+        blocks::write(&mut area, self.block, &self.events).map_err(io::Error::other)?;
+        self.journal.write_all(&area)?;
+        self.block += 1;
+        self.events.clear();
+        Ok(())
+    }
+
+    /// Writes the last block and prints the roster.
+    pub fn finish(mut self) -> io::Result<()> {
+        if !self.events.is_empty() {
+            self.flush_block()?;
+        }
+        self.journal.flush()?;
+        let mut table = [Entry::default(); 64];
+        let roster = self.scheduler.roster(&mut table);
+        for entry in roster.map_err(io::Error::other)? {
+            let state = match entry.state {
+                ThreadState::Runnable => "runnable",
+                ThreadState::Blocked => "blocked",
+                ThreadState::Running => "running",
+            };
+            let (thread, allotment) = (entry.thread, entry.allotment);
+            let (lag, share) = (entry.lag, entry.share);
+            writeln!(
+                self.out,
+                "roster {thread} {state} {allotment} {lag} {share}"
+            )?;
+        }
+        Ok(())
+    }
+}

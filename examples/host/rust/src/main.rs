@@ -1,0 +1,51 @@
+//! A controller's main loop on a virtual clock, in Rust: readout, pumps, the
+//! lab's viewer and an exporter that waits for a server whose replies come
+//! sooner or later. Every call of the scheduler is journalled into event blocks.
+//!
+//! ```text
+//! cargo run --release --manifest-path rust/Cargo.toml -p controller -- SEED JOURNAL [MILLISECONDS]
+//! ```
+//!
+//! Standard output has a line for each call, as `mtrrun` prints it for the
+//! call's record (number, answer, thread, slice, threads before it), and at the
+//! end the roster. `target/bin/mtrrun < JOURNAL` prints the same lines but for
+//! the roster. `examples/host/c` is the same host in C.
+
+#![forbid(unsafe_code)]
+
+mod host;
+mod world;
+
+use std::error::Error;
+use std::fs::File;
+use std::process::ExitCode;
+
+use host::Host;
+use world::World;
+
+const USAGE: &str = "usage: controller SEED JOURNAL [MILLISECONDS, at most 1000000]";
+
+fn main() -> ExitCode {
+    match run() {
+        Ok(()) => ExitCode::SUCCESS,
+        Err(error) => {
+            eprintln!("controller: {error}");
+            ExitCode::FAILURE
+        }
+    }
+}
+
+fn run() -> Result<(), Box<dyn Error>> {
+    let words: Vec<String> = std::env::args().skip(1).collect();
+    let (seed, journal, milliseconds) = match &words[..] {
+        [seed, journal] => (seed.parse(), journal, Ok(1000)),
+        [seed, journal, milliseconds] => (seed.parse(), journal, milliseconds.parse()),
+        _ => return Err(USAGE.into()),
+    };
+    let (Ok(seed), Ok(milliseconds @ 0..=1_000_000)) = (seed, milliseconds) else {
+        return Err(USAGE.into());
+    };
+    let mut host = Host::new(File::create(journal)?);
+    World::new(seed).simulate(&mut host, 1000 * milliseconds)?;
+    Ok(host.finish()?)
+}

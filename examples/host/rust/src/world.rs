@@ -1,0 +1,292 @@
+//! The simulated threads and the loop.
+
+use std::io;
+
+use binding::{Dispatch, Event, Reason, Settings};
+
+use crate::host::Host;
+
+const READOUT: u8 = 0;
+const VIEWER: u8 = 2;
+const EXPORTER: u8 = 3;
+
+/// The lab's side of the controller, in a group of its own.
+const LAB: u8 = 1;
+const LAB_CEILING: u16 = 300;
+
+/// A thread works for a burst of ticks, ends it for the reason given and, if it
+/// blocked, is woken after a pause. One pause of eight is longer by the factor
+/// `late`. Without a burst it works on for ever.
+struct Task {
+    group: u8,
+    reservation: u16,
+    burst: Option<(u32, u32)>,
+    reason: Reason,
+    pause: (u32, u32),
+    late: u32,
+}
+
+const TASKS: [Task; 5] = [
+    // Readout.
+    Task {
+        group: 0,
+        reservation: 500,
+        burst: None,
+        reason: Reason::Tick,
+        pause: (0, 0),
+        late: 1,
+    },
+    // Pumps.
+    Task {
+        group: 0,
+        reservation: 100,
+        burst: Some((600, 900)),
+        reason: Reason::Block,
+        pause: (10_000, 10_000),
+        late: 1,
+    },
+    // The viewer.
+    Task {
+        group: LAB,
+        reservation: 100,
+        burst: Some((3_000, 8_000)),
+        reason: Reason::Yield,
+        pause: (0, 0),
+        late: 1,
+    },
+    // The exporter.
+    Task {
+        group: LAB,
+        reservation: 100,
+        burst: Some((1_500, 4_000)),
+        reason: Reason::Block,
+        pause: (200, 3_000),
+        late: 10,
+    },
+    // The self-test at power-up.
+    Task {
+        group: 0,
+        reservation: 50,
+        burst: Some((5_000, 5_000)),
+        reason: Reason::Exit,
+        pause: (0, 0),
+        late: 1,
+    },
+];
+
+pub struct World {
+    clock: u64,
+    random: u64,
+    /// Ticks left of each task's burst, none if it has no end.
+    left: [Option<u32>; TASKS.len()],
+    /// When each task is woken.
+    due: [Option<u64>; TASKS.len()],
+}
+
+impl World {
+    pub fn new(seed: u64) -> World {
+        World {
+            clock: 0,
+            random: seed,
+            left: [None; TASKS.len()],
+            due: [None; TASKS.len()],
+        }
+    }
+
+    /// The loop: wake who is due, dispatch, run, report.
+    pub fn simulate(&mut self, host: &mut Host, end: u64) -> io::Result<()> {
+        self.boot(host)?;
+        let mut connected = false;
+        let mut dispatches = 0;
+        while self.clock < end {
+            if !connected && self.clock >= end / 2 {
+                self.reconnect(host)?;
+                connected = true;
+            }
+            for thread in 0..TASKS.len() {
+                if self.due[thread].is_some_and(|due| due <= self.clock) {
+                    let thread = thread as u8;
+                    host.accepted(Event::Wake { thread })?;
+                    self.due[thread as usize] = None;
+                }
+            }
+            match host.accepted(Event::Dispatch)? {
+                Some(Dispatch::Run { thread, slice, .. }) => {
+                    dispatches += 1;
+                    if dispatches % 16 == 0 {
+                        confuse(host, thread, slice)?;
+                    }
+                    self.run(host, thread, slice)?;
+                }
+                // Readout is always runnable, so this host is never idle after
+                // power-up. Others sleep until the next wake.
+                _ => match self.due.iter().flatten().min() {
+                    Some(&next) => self.clock = next,
+                    None => break,
+                },
+            }
+        }
+        Ok(())
+    }
+
+    /// Power-up, and mistakes that a host can make: each of those is refused
+    /// and changes nothing.
+    fn boot(&mut self, host: &mut Host) -> io::Result<()> {
+        let settings = Settings::default();
+        let lab = Event::Open {
+            group: LAB,
+            parent: 0,
+            ceiling: LAB_CEILING,
+        };
+        for event in [
+            Event::Start(Settings {
+                thousandth: 0,
+                ..settings
+            }),
+            Event::Start(settings),
+            Event::Dispatch,
+            Event::Report { reason: 0, used: 1 },
+            Event::Open {
+                group: LAB,
+                parent: 2,
+                ceiling: LAB_CEILING,
+            },
+            lab,
+            lab,
+            Event::Open {
+                group: 2,
+                parent: 0,
+                ceiling: 1_001,
+            },
+        ] {
+            let _refused_or_not = host.call(event)?;
+        }
+        for thread in 0..TASKS.len() as u8 {
+            self.admit(host, thread)?;
+        }
+        for event in [
+            Event::Admit {
+                thread: READOUT,
+                group: 0,
+                reservation: 1,
+            },
+            Event::Admit {
+                thread: 64,
+                group: 0,
+                reservation: 1,
+            },
+            Event::Admit {
+                thread: TASKS.len() as u8,
+                group: LAB,
+                reservation: LAB_CEILING,
+            },
+            Event::Close { group: LAB },
+        ] {
+            let _refused = host.call(event)?;
+        }
+        Ok(())
+    }
+
+    /// The lab's network is set up again: its threads and its group go and come
+    /// back.
+    fn reconnect(&mut self, host: &mut Host) -> io::Result<()> {
+        for event in [
+            Event::Remove { thread: VIEWER },
+            Event::Remove { thread: EXPORTER },
+            Event::Close { group: LAB },
+            Event::Open {
+                group: LAB,
+                parent: 0,
+                ceiling: LAB_CEILING,
+            },
+        ] {
+            host.accepted(event)?;
+        }
+        self.admit(host, VIEWER)?;
+        self.admit(host, EXPORTER)
+    }
+
+    fn admit(&mut self, host: &mut Host, thread: u8) -> io::Result<()> {
+        let task = &TASKS[thread as usize];
+        let event = Event::Admit {
+            thread,
+            group: task.group,
+            reservation: task.reservation,
+        };
+        host.accepted(event)?;
+        self.begin_burst(thread as usize);
+        Ok(())
+    }
+
+    fn begin_burst(&mut self, thread: usize) {
+        self.left[thread] = TASKS[thread].burst.map(|range| self.between(range));
+        self.due[thread] = None;
+    }
+
+    /// Runs the thread until its slice or its burst ends or another is to be
+    /// woken, and reports.
+    fn run(&mut self, host: &mut Host, thread: u8, slice: u32) -> io::Result<()> {
+        let n = thread as usize;
+        let task = &TASKS[n];
+        let mut used = slice.min(self.left[n].unwrap_or(u32::MAX));
+        if let Some(next) = self.due.iter().flatten().min() {
+            used = used.min((next - self.clock).try_into().unwrap_or(u32::MAX));
+        }
+        self.clock += used as u64;
+        let mut reason = Reason::Tick;
+        if let Some(left) = &mut self.left[n] {
+            *left -= used;
+            if *left == 0 {
+                reason = task.reason;
+            }
+        }
+        let event = Event::Report {
+            reason: reason.number(),
+            used,
+        };
+        host.accepted(event)?;
+        if reason != Reason::Tick {
+            self.begin_burst(n);
+        }
+        if reason == Reason::Block {
+            let pause = self.between(task.pause);
+            let factor = if self.between((0, 7)) == 0 {
+                task.late
+            } else {
+                1
+            };
+            self.due[n] = Some(self.clock + (pause * factor) as u64);
+        }
+        Ok(())
+    }
+
+    /// SplitMix64, from the first to the second.
+    fn between(&mut self, (low, high): (u32, u32)) -> u32 {
+        self.random = self.random.wrapping_add(0x9e37_79b9_7f4a_7c15);
+        let mut z = self.random;
+        z = (z ^ (z >> 30)).wrapping_mul(0xbf58_476d_1ce4_e5b9);
+        z = (z ^ (z >> 27)).wrapping_mul(0x94d0_49bb_1331_11eb);
+        z ^= z >> 31;
+        low + (z % (high - low + 1) as u64) as u32
+    }
+}
+
+/// What a confused driver does while a thread runs: all of it is refused.
+fn confuse(host: &mut Host, running: u8, slice: u32) -> io::Result<()> {
+    for event in [
+        Event::Dispatch,
+        Event::Wake { thread: running },
+        Event::Remove { thread: running },
+        Event::Report {
+            reason: Reason::Exit.number() + 1,
+            used: 0,
+        },
+        Event::Report {
+            reason: Reason::Tick.number(),
+            used: slice + 1,
+        },
+    ] {
+        let _refused = host.call(event)?;
+    }
+    Ok(())
+}

@@ -1,0 +1,221 @@
+//! The host in C and the host in Rust: the same journal, byte by byte, and `mtrrun` prints for it what both were answered.
+
+use binding::{blocks, Event, Settings};
+use std::fs;
+use std::path::{Path, PathBuf};
+use std::process::{Command, Output, Stdio};
+use std::sync::OnceLock;
+
+fn root() -> PathBuf {
+    PathBuf::from(env!("CARGO_MANIFEST_DIR")).join("../../..")
+}
+
+fn scratch(name: &str) -> PathBuf {
+    Path::new(env!("CARGO_TARGET_TMPDIR")).join(name)
+}
+
+/// The host in C, compiled as its first comment says, with every warning an error.
+fn c_host() -> &'static Path {
+    static PROGRAM: OnceLock<PathBuf> = OnceLock::new();
+    PROGRAM.get_or_init(|| {
+        let program = scratch("controller-c");
+        let done = Command::new("cc")
+            .args([
+                "-std=c11",
+                "-Wall",
+                "-Wextra",
+                "-Werror",
+                "-pedantic",
+                "-O2",
+            ])
+            .arg("-I")
+            .arg(root().join("include"))
+            .arg(root().join("examples/host/c/controller.c"))
+            .arg(root().join("target/staticlib/libabi.a"))
+            .arg("-o")
+            .arg(&program)
+            .output()
+            .unwrap();
+        assert!(
+            done.status.success(),
+            "{}",
+            String::from_utf8_lossy(&done.stderr)
+        );
+        program
+    })
+}
+
+fn rust_host() -> &'static Path {
+    Path::new(env!("CARGO_BIN_EXE_controller"))
+}
+
+fn run(host: &Path, words: &[&str]) -> Output {
+    Command::new(host).args(words).output().unwrap()
+}
+
+/// What a host prints and journals.
+fn hosted(host: &Path, name: &str, seed: &str, milliseconds: &str) -> (String, Vec<u8>) {
+    let journal = scratch(name);
+    let words = [seed, journal.to_str().unwrap(), milliseconds];
+    let done = run(host, &words);
+    assert!(
+        done.status.success(),
+        "{}",
+        String::from_utf8_lossy(&done.stderr)
+    );
+    let printed = String::from_utf8(done.stdout).unwrap();
+    (printed, fs::read(journal).unwrap())
+}
+
+/// What `mtrrun` prints for the journal.
+fn replayed(name: &str) -> String {
+    let program = root().join("target/bin/mtrrun");
+    let journal = fs::File::open(scratch(name)).unwrap();
+    let done = Command::new(&program)
+        .stdin(Stdio::from(journal))
+        .output()
+        .unwrap_or_else(|e| panic!("{}: {e}: run rt check mtrrun", program.display()));
+    assert!(done.status.success());
+    String::from_utf8(done.stdout).unwrap()
+}
+
+/// The events of a journal whose blocks are full but for the last.
+fn events(journal: &[u8]) -> Vec<Event> {
+    assert_eq!(journal.len() % blocks::BYTES, 0);
+    let mut all = Vec::new();
+    for (number, area) in journal.chunks(blocks::BYTES).enumerate() {
+        assert_eq!(all.len(), blocks::RECORDS * number);
+        all.extend_from_slice(&blocks::read(area, number as u32).unwrap());
+    }
+    all
+}
+
+/// A line's five numbers, or a roster line's number, allotment, lag and share.
+fn numbers(line: &str) -> Vec<i64> {
+    let words = line.split(' ');
+    words.filter_map(|word| word.parse().ok()).collect()
+}
+
+const READOUT: u8 = 0;
+const F: i64 = 500;
+
+/// What readout is owed in a journal: f × W − 1000 × S, W and S from its admission on.
+#[derive(Debug, PartialEq, Eq)]
+struct Owed {
+    last: i64,
+    /// The most over a stretch of calls, from any one to any later one.
+    most: i64,
+    /// S and W.
+    ticks: [i64; 2],
+}
+
+fn owed(events: &[Event], lines: &[&str]) -> Owed {
+    let mut running = None;
+    let mut admitted = false;
+    let (mut last, mut least, mut most, mut ticks) = (0, 0, 0, [0, 0]);
+    for (event, line) in events.iter().zip(lines) {
+        let line = numbers(line);
+        if line[1] != 0 {
+            continue;
+        }
+        match *event {
+            Event::Admit { thread, .. } => admitted |= thread == READOUT,
+            Event::Dispatch => running = Some(line[2]),
+            Event::Report { reason, used } if admitted => {
+                let reads = running == Some(READOUT as i64);
+                assert!(!reads || reason == 0);
+                ticks[0] += if reads { used as i64 } else { 0 };
+                ticks[1] += used as i64;
+                last = F * ticks[1] - 1000 * ticks[0];
+                most = most.max(last - least);
+                least = least.min(last);
+            }
+            _ => {}
+        }
+    }
+    Owed { last, most, ticks }
+}
+
+fn compare(seed: &str, milliseconds: &str) {
+    let name = format!("{seed}-{milliseconds}");
+    let (c_name, rust_name) = (format!("c-{name}.blocks"), format!("rust-{name}.blocks"));
+    let (c_printed, c_journal) = hosted(c_host(), &c_name, seed, milliseconds);
+    let (printed, journal) = hosted(rust_host(), &rust_name, seed, milliseconds);
+    assert!(c_journal == journal, "{name}");
+    assert_eq!(c_printed, printed, "{name}");
+
+    let at = printed.find("roster").unwrap();
+    let (answers, roster) = printed.split_at(at);
+    assert_eq!(replayed(&rust_name), answers, "{name}");
+
+    let (events, lines) = (events(&journal), answers.lines().collect::<Vec<_>>());
+    assert_eq!(events.len(), lines.len());
+    for (i, line) in lines.iter().enumerate() {
+        let line = numbers(line);
+        assert!(line.len() == 5 && line[0] == i as i64);
+    }
+
+    // Every kind of call is accepted at least once, and every refusal that a host can meet occurs.
+    let mut accepted = [0; 9];
+    let mut refusals = [0; 21];
+    for (event, line) in events.iter().zip(&lines) {
+        let answer = numbers(line)[1] as usize;
+        refusals[answer] += 1;
+        accepted[binding::raw::Record::from(*event).kind as usize] += (answer == 0) as u32;
+    }
+    assert!(accepted[1..].iter().all(|&n| n > 0), "{accepted:?}");
+    let seen: Vec<usize> = (0..21).filter(|&a| refusals[a] > 0).collect();
+    assert_eq!(seen, (0..=14).collect::<Vec<_>>());
+
+    // Readout's bound over every stretch, and its lag and share in the roster.
+    let settings = Settings::default();
+    let (m, p) = (settings.thousandth as i64, settings.interval as i64);
+    let owed = owed(&events, &lines);
+    let bound = 2 * F * (1000 - F) * m + F * p;
+    assert!(0 < owed.most && owed.most <= bound, "{owed:?}");
+    let rows: Vec<Vec<i64>> = roster.lines().map(numbers).collect();
+    assert_eq!(rows.len(), 4);
+    let readout = rows.iter().find(|row| row[0] == READOUT as i64).unwrap();
+    let share = 1000 * owed.ticks[0] / owed.ticks[1];
+    assert_eq!(readout[2..], [owed.last, share]);
+    assert!(share >= F, "{share}");
+    println!("{name}: {} calls, {owed:?} of {bound}", lines.len());
+}
+
+#[test]
+fn the_same_journal_and_the_same_answers() {
+    for seed in ["1", "2", "3", "77", "18446744073709551615"] {
+        compare(seed, "1000");
+    }
+}
+
+#[test]
+fn a_minute() {
+    compare("4", "60000");
+}
+
+#[test]
+fn bad_arguments() {
+    let taken = scratch("bad.blocks");
+    let taken = taken.to_str().unwrap();
+    let none = scratch("none/journal");
+    let none = none.to_str().unwrap();
+    for host in [c_host(), rust_host()] {
+        for words in [
+            &[][..],
+            &["1"],
+            &["x", taken],
+            &["-1", taken],
+            &["18446744073709551616", taken],
+            &["1", taken, "1000001"],
+            &["1", taken, "1", "1"],
+            &["1", none],
+        ] {
+            let done = run(host, words);
+            assert_eq!(done.status.code(), Some(1), "{words:?}");
+            assert!(done.stdout.is_empty(), "{words:?}");
+            assert!(done.stderr.starts_with(b"controller: "), "{words:?}");
+        }
+    }
+    assert!(!Path::new(taken).exists());
+}

@@ -1,0 +1,122 @@
+//! What the fuzzer began with and what it has learnt, run again: the library's functions, `mtrrun` and the model
+//! agree on each case.
+
+use fuzz::journal::{case, replay, Case};
+use std::io::{Read, Write};
+use std::path::{Path, PathBuf};
+use std::process::{Command, Stdio};
+
+fn root() -> PathBuf {
+    Path::new(env!("CARGO_MANIFEST_DIR")).join("../..")
+}
+
+fn recipes() -> Vec<(PathBuf, Vec<u8>)> {
+    let mut recipes = Vec::new();
+    for folder in ["seeds", "corpus"] {
+        let folder = Path::new(env!("CARGO_MANIFEST_DIR")).join(folder);
+        for entry in std::fs::read_dir(folder).unwrap() {
+            let path = entry.unwrap().path();
+            let bytes = std::fs::read(&path).unwrap();
+            recipes.push((path, bytes));
+        }
+    }
+    recipes.sort();
+    recipes
+}
+
+/// What the program prints for a journal that arrives in the case's pieces.
+fn printed(case: &Case) -> Vec<u8> {
+    let program = root().join("target/bin/mtrrun");
+    let mut child = Command::new(&program)
+        .stdin(Stdio::piped())
+        .stdout(Stdio::piped())
+        .spawn()
+        .unwrap_or_else(|e| panic!("{}: {e}: run rt check mtrrun", program.display()));
+    let mut to = child.stdin.take().unwrap();
+    let mut out = Vec::new();
+    std::thread::scope(|scope| {
+        scope.spawn(move || {
+            let mut rest = &case.journal[..];
+            for &length in case.pieces.iter().cycle() {
+                if rest.is_empty() {
+                    break;
+                }
+                let (piece, more) = rest.split_at(length.min(rest.len()));
+                to.write_all(piece).unwrap();
+                rest = more;
+            }
+        });
+        child.stdout.take().unwrap().read_to_end(&mut out).unwrap();
+    });
+    assert!(child.wait().unwrap().success());
+    out
+}
+
+#[test]
+fn the_corpus() {
+    let recipes = recipes();
+    let mut answers = [0u32; 21];
+    let mut refused = [0u32; 21];
+    for (path, recipe) in &recipes {
+        let case = case(recipe);
+        let wanted = replay(&case.journal);
+        assert!(printed(&case) == wanted.as_bytes(), "{}", path.display());
+        for line in wanted.lines() {
+            let words: Vec<&str> = line.split(' ').collect();
+            match words[..] {
+                ["block", _, refusal] => refused[refusal.parse::<usize>().unwrap()] += 1,
+                _ => answers[words[1].parse::<usize>().unwrap()] += 1,
+            }
+        }
+    }
+    println!("{} recipes: {answers:?}, blocks {refused:?}", recipes.len());
+    // 15 needs a meter that no short journal reaches, and 16 to 19 are no answers of a record.
+    let seen = |counts: [u32; 21]| -> Vec<usize> { (0..21).filter(|&a| counts[a] > 0).collect() };
+    assert_eq!(seen(answers), (0..=14).chain([20]).collect::<Vec<_>>());
+    assert_eq!(seen(refused), [17, 18, 19]);
+}
+
+/// Any bytes are a recipe, and the forms give what they are described to give.
+#[test]
+fn recipes_by_hand() {
+    assert_eq!(case(&[]).journal, []);
+    assert_eq!(replay(&case(&[]).journal), "");
+    // The journal itself.
+    let raw = case(&[0, 1, 2, 7, 8, 9]);
+    assert_eq!((raw.journal, raw.pieces), (vec![7, 8, 9], [9, 17]));
+    assert_eq!(replay(&[7, 8, 9]), "block 0 17\n");
+    // Blocks made right: 512 zero bytes are then an empty block.
+    let mut bytes = vec![1, 0, 0];
+    bytes.extend([0; 1024]);
+    assert_eq!(replay(&case(&bytes).journal), "");
+    assert_eq!(replay(&bytes[3..]), "block 0 18\nblock 1 18\n");
+    // A list: admit 5 in group 0 with 500, dispatch, end of the block, report of 20000 with reason 1.
+    let list = [2, 0, 0, 3, 5, 0, 0xf4, 1, 6, 0, 7, 1, 0x20, 0x4e, 0, 0];
+    let journal = case(&list).journal;
+    assert_eq!(journal.len(), 1024);
+    assert_eq!(replay(&journal), "0 0 0 0 0\n1 0 5 20000 0\n31 0 0 0 0\n");
+    // A byte of the first block set under its check, one of the second after it, and the third cut short.
+    let list = [2, 0, 0, 9, 20, 0, 1, 6, 0, 10, 20, 0, 1, 6, 0, 6, 11, 1, 0];
+    assert_eq!(
+        replay(&case(&list).journal),
+        "block 0 19\nblock 1 18\nblock 2 17\n"
+    );
+}
+
+/// The part that only the fuzzer's build has compiles, without a warning.
+#[test]
+fn the_fuzzer_compiles() {
+    let done = Command::new(env!("CARGO"))
+        .args(["check", "--quiet", "--offline", "--lib", "-p", "fuzz"])
+        .arg("--manifest-path")
+        .arg(root().join("rust/Cargo.toml"))
+        .env("RUSTFLAGS", "--cfg fuzzing -D warnings")
+        .env(
+            "CARGO_TARGET_DIR",
+            Path::new(env!("CARGO_TARGET_TMPDIR")).join("fuzzing"),
+        )
+        .output()
+        .unwrap();
+    let said = String::from_utf8_lossy(&done.stderr);
+    assert!(done.status.success(), "{said}");
+}
