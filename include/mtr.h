@@ -336,7 +336,10 @@ MTR_FIELD(mtr_entry, allotment, 8, 4);
 MTR_FIELD(mtr_entry, share, 12, 4);
 MTR_FIELD(mtr_entry, lag, 16, 8);
 
-/* A record as numbers. Not every value has a form in a block: see has_form. */
+/*
+ * A record as numbers. It has a form in a block if its kind is known and the
+ * fields that its kind does not use are zero.
+ */
 typedef struct mtr_record {
     uint8_t kind;
     uint8_t subject;

@@ -4,17 +4,11 @@ use mathlib.Core.Bool.{Bool, cond}
 use Rattle.scheduler.specs.Rule as rule
 use Rattle.scheduler.specs.Subtree as tree
 use Rattle.abi.specs.declared.calls.Reply.{Reply}
-use Rattle.abi.specs.declared.calls.Numbers.{Numbers}
-use Rattle.scheduler.specs.declared.Scheduler.{Scheduler}
 use Rattle.abi.specs.declared.calls.Mapped.{Mapped}
 use Rattle.abi.specs.declared.calls.Total.{Total}
 
 abbrev pub replyOut : rule.Reply → Reply
 replyOut r = record { answer = r .answer; thread = r .thread; slice = r .slice; before = r .before; state = r .state }
-
--- numbers and a state
-abbrev pub withState : Numbers → Scheduler → Reply
-withState r s = record { answer = r .answer; thread = r .thread; slice = r .slice; before = r .before; state = s }
 
 abbrev pub mappedOut : rule.Mapped → Mapped
 mappedOut r = record { answer = r .answer; reservation = r .reservation }

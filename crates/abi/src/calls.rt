@@ -3,12 +3,12 @@ ghost use mathlib.Core.Path.{_≡_};
 ghost use Rattle.scheduler.specs.Sound.{sound};
 ghost use Rattle.scheduler.specs.Refusals.{openGroup, closeGroup, admit, remove, wake, dispatch, report};
 ghost use Rattle.scheduler.specs.Rule.{step, startReply, mapped};
-ghost use Rattle.scheduler.specs.Answers.{lineOf, replyOf, mappedOf, subtreeOf};
+ghost use Rattle.scheduler.specs.Answers.{replyOf, mappedOf, subtreeOf};
 ghost use Rattle.scheduler.specs.Subtree.{subtreeReply};
-ghost use Rattle.abi.specs.Calls.{withState, replyOut, mappedOut, totalOut, flagOut};
-use scheduler::Answer;
+ghost use Rattle.abi.specs.Calls.{replyOut, mappedOut, totalOut, flagOut};
 use scheduler::Answered;
 use scheduler::Scheduler;
+use scheduler::batch;
 use scheduler::groups;
 use scheduler::priority;
 
@@ -37,57 +37,13 @@ pub struct Total {
     pub thousandths: u32,
 }
 
-// The numbers of an answer.
-#[repr(C)]
-struct Numbers {
-    pub answer: u32,
-    pub thread: u32,
-    pub slice: u32,
-    pub before: u32,
-}
-
-fn line(answer: Answer) -> Numbers
-    ensures { λ r. ⌜ ((s : Scheduler) → withState r s ≡ replyOut (lineOf answer s)) ⌝ }
-{
-    match answer {
-        Answer::Accepted => Numbers {
-            answer: 0,
-            thread: 0,
-            slice: 0,
-            before: 0,
-        },
-        Answer::Refused(k) => Numbers {
-            answer: k,
-            thread: 0,
-            slice: 0,
-            before: 0,
-        },
-        Answer::Idle(n) => Numbers {
-            answer: 0,
-            thread: 64,
-            slice: 0,
-            before: n,
-        },
-        Answer::Run {
-            thread,
-            slice,
-            before,
-        } => Numbers {
-            answer: 0,
-            thread: thread,
-            slice: slice,
-            before: before,
-        },
-    }
-}
-
 // The numbers of an answer, with the state.
 fn handed(done: Answered) -> Reply
     ensures { λ r. ⌜ r ≡ replyOut (replyOf done) ⌝ }
 {
     let answer = done.answer;
     let state = done.state;
-    let numbers = line(answer);
+    let numbers = batch::line_of(answer);
     Reply {
         answer: numbers.answer,
         thread: numbers.thread,

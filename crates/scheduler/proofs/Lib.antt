@@ -24,3 +24,4 @@ pub mod Started
 pub mod Reserve
 pub mod ReserveCodes
 pub mod ReserveTree
+pub mod Batches

@@ -2,11 +2,11 @@
 -- chosen thread; and when the anchor is set.
 use Prim.Native.Nat.{ℕ, _+_, _-_, _*_, _≤_, _<_}
 use mathlib.Core.Path.{_≡_, refl, ap, _∙_}
-use mathlib.Core.Bool.{false, not, _&&_}
+use mathlib.Core.Bool.{Bool, true, false, not, _&&_, _||_}
 use native.Mathlib.Omega.{arith}
 use native.Mathlib.Nat.{sub-self, mul-zero}
 use lib.ListN.{length, getD, take, set}
-use lib.Dec.{T, ltb, eqb, ltb→lt}
+use lib.Dec.{T, ltb, leb, eqb, ltb→lt}
 use borrow.Author.Tests.{eqb-true, eqb-false, ne-eqb, eq-eqb, lt-leb}
 use lib.IntN.{pos, subℕ}
 use Rattle.order.specs.Lists.{without, everyOf}
@@ -92,9 +92,13 @@ mutual-order c s =
     (λ q. rw (step-state c s (eqb-true (refusal c s) 0 q)) (kept-accepted c s (eqb-true (refusal c s) 0 q)))
     (λ q. rw (refused-state c s (eqb-false (refusal c s) 0 q)) refl)
 
+neither : (a b : Bool) → a ≡ false → b ≡ false → (a || b) ≡ false
+neither true b p q = p
+neither false b p q = q
+
 not-renewed : (reason used : ℕ) (t : Thread) → reason ≤ 1 → used < t .allotment → renewed reason used t ≡ false
 unfolding renewed
-not-renewed reason used t small left = rw (ne-eqb reason 2 (λ z. omega arith), lt-leb (t .allotment) used left)
+not-renewed reason used t small left = neither (eqb reason 2) (leb (t .allotment) used) (ne-eqb reason 2 (λ z. omega arith)) (lt-leb (t .allotment) used left)
 
 -- "Otherwise it keeps its place and what remains": a tick or a block with something left.
 pub left-keeps : (reason used : ℕ) (s : Scheduler) → refusal (report reason used) s ≡ 0 → reason ≤ 1 → used < allotmentAt s (s .running)

@@ -6,7 +6,7 @@ use native.Mathlib.Omega.{arith}
 use lib.Dec.{T, ltb, leb, eqb, lit<, leb→le}
 use borrow.Author.Tests.{eqb-true, eqb-false, ltb-false, leb-false, not-false}
 use Rattle.order.specs.Lists.{everyBelow, passed}
-use Rattle.order.proofs.Bools.{cases, clash, or-last, by, and-l, and-r, holds, or-false-l, or-false-r}
+use Rattle.order.proofs.Bools.{by, and-l, and-r, holds, or-false-l, or-false-r}
 use Rattle.scheduler.specs.declared.Thread.{Thread}
 use Rattle.scheduler.specs.declared.Scheduler.{Scheduler}
 use Rattle.scheduler.specs.State.{threadAt, admittedAt, openAt, sliceAt}
@@ -155,12 +155,6 @@ reported-cases P r reason used s a b c =
     a b c
 
 -- a thread that is not renewed has something left
-used-up : (reason used : ℕ) (t : Thread) → leb (t .allotment) used ≡ true → renewed reason used t ≡ true
-unfolding renewed
-used-up reason used t q = rw (q, or-last)
-
 pub not-used-up : (reason used : ℕ) (t : Thread) → renewed reason used t ≡ false → used < t .allotment
-not-used-up reason used t e =
-    cases (leb (t .allotment) used)
-    (λ q. absurd (clash (renewed reason used t) (used-up reason used t q) e))
-    (λ q. leb-false (t .allotment) used q)
+unfolding renewed
+not-used-up reason used t e = leb-false (t .allotment) used (or-false-r (eqb reason 2) (leb (t .allotment) used) e)

@@ -4,11 +4,12 @@
 use Prim.Native.Nat.{ℕ, _-_, _%_, _<_}
 use mathlib.Core.Path.{_≡_, refl, sym, ap, _∙_}
 use mathlib.Core.List.{List, [], _∷_, _++_, append-assoc}
-use mathlib.Core.Bool.{Bool, false, not, cond, _||_}
+use mathlib.Core.Bool.{Bool, true, false, not, cond, _||_}
 use native.Mathlib.Omega.{arith}
 use lib.ListN.{set, take, drop}
+use lib.Seq.{set-getD}
 use lib.Dec.{T, ltb, eqb}
-use borrow.Author.Tests.{ltb-false}
+use borrow.Author.Tests.{ltb-false, eqb-true, eqb-false}
 use Rattle.order.specs.Lists.{without}
 use Rattle.order.specs.Queue.{requeue}
 use Rattle.order.proofs.Bools.{cases}
@@ -39,6 +40,19 @@ refused c s k e ne = ap (λ (j : ℕ). refuse j s) e ∙ sym (refused-state c s 
 pub accepted : (c : Call) (s s′ : Scheduler) → isDispatch c ≡ false → refusal c s ≡ 0 → s′ ≡ effect c s → replyOf (answered Accepted s′) ≡ step c s
 unfolding replyOf lineOf accept
 accepted c s s′ d e q = ap (λ (z : Scheduler). lineOf Accepted z) q ∙ sym (step-state c s e ∙ rw d)
+
+-- a call that is no dispatch, with the answer of its number: without a refusal the state is the effect's, and with one it is the same
+pub settled : (c : Call) (s s′ : Scheduler) → isDispatch c ≡ false → (k : ℕ) → k ≡ refusal c s → (a : Answer) → a ≡ cond (eqb k 0) Accepted (Refused k)
+    → (eqb k 0 ≡ true → refusal c s ≡ 0 → s′ ≡ effect c s) → (eqb k 0 ≡ false → s′ ≡ s) → replyOf (answered a s′) ≡ step c s
+settled c s s′ d k e a q f g =
+    cases (eqb k 0)
+    (λ z.
+    let r : refusal c s ≡ 0 = sym e ∙ eqb-true k 0 z in
+    let w : a ≡ Accepted = q ∙ rw z in
+    ap (λ (x : Answer). replyOf (answered x s′)) w ∙ accepted c s s′ d r (f z r))
+    (λ z.
+    let w : a ≡ Refused k = q ∙ rw z in
+    ap (λ (x : Answer). replyOf (answered x s′)) w ∙ ap (λ (x : Scheduler). replyOf (answered (Refused k) x)) (g z) ∙ refused c s k e (eqb-false k 0 z))
 
 -- Thread numbers.
 
@@ -97,21 +111,42 @@ module _ (s : Scheduler) (n : ℕ) where
         let ok = passes (remove n) s e in
         is-listed s (facts s (ok .0)) n ((remove-passed s n (ok .1)) .0)
 
-    pub remove-done : (t : Thread) → t ≡ noThread → (list : List ℕ) → list ≡ requeue n (take (s .count) (s .order)) ++ drop (s .count) (s .order)
-        → replyOf (answered Accepted (stateOf (set (s .threads) (n % 64) t) list (s .groups) (s .meter) (s .settings) (s .count - 1) (s .running))) ≡ step (remove n) s
-    unfolding effect isDispatch offList withList withThread rear listed
-    remove-done t q list l =
-        let w = remove-listed in
-        accepted (remove n) s (stateOf (set (s .threads) (n % 64) t) list (s .groups) (s .meter) (s .settings) (s .count - 1) (s .running)) refl e
-        (ap (λ (o : List ℕ). stateOf (set (s .threads) (n % 64) t) o (s .groups) (s .meter) (s .settings) (s .count - 1) (s .running)) (l ∙ w .moved)
-        ∙ ap (λ (x : Thread). stateOf (set (s .threads) (n % 64) x) (rear s n) (s .groups) (s .meter) (s .settings) (s .count - 1) (s .running)) q
-        ∙ ap (λ (j : ℕ). stateOf (set (s .threads) j noThread) (rear s n) (s .groups) (s .meter) (s .settings) (s .count - 1) (s .running)) (w .at))
+  -- the state of a removal that is accepted or not
+  abbrev removal : Bool → Scheduler
+  removal b =
+      stateOf (set (s .threads) (n % 64) (cond b noThread (threadAt s (n % 64)))) (cond b (requeue (n % 64) (take (s .count) (s .order)) ++ drop (s .count) (s .order)) (s .order))
+      (s .groups) (s .meter) (s .settings) (cond b (s .count - 1) (s .count)) (s .running)
 
-  pub wake-done : refusal (wake n) s ≡ 0 → (t : Thread) → t ≡ wokenThread s (threadAt s (n % 64)) → replyOf (answered Accepted (withThread s (n % 64) t)) ≡ step (wake n) s
-  unfolding effect isDispatch
-  wake-done e t q =
-      let ok = passes (wake n) s e in
-      let k = facts s (ok .0) in
-      accepted (wake n) s (withThread s (n % 64) t) refl e
-      (ap (withThread s (n % 64)) q
-      ∙ ap (λ (j : ℕ). withThread s j (wokenThread s (threadAt s j))) (rest n ((k .thread n (wake-passed s n (ok .1))) .small)))
+  pub remove-done : (k : ℕ) → k ≡ refusal (remove n) s → (a : Answer) → a ≡ cond (eqb k 0) Accepted (Refused k)
+      → (t : Thread) → t ≡ cond (eqb k 0) noThread (threadAt s (n % 64))
+      → (list : List ℕ) → list ≡ cond (eqb k 0) (requeue (n % 64) (take (s .count) (s .order)) ++ drop (s .count) (s .order)) (s .order)
+      → (count : ℕ) → count ≡ cond (eqb k 0) (s .count - 1) (s .count)
+      → replyOf (answered a (stateOf (set (s .threads) (n % 64) t) list (s .groups) (s .meter) (s .settings) count (s .running))) ≡ step (remove n) s
+  unfolding effect isDispatch offList withList withThread rear listed
+  remove-done k e a q t qt list ql count qc =
+      let s′ = stateOf (set (s .threads) (n % 64) t) list (s .groups) (s .meter) (s .settings) count (s .running) in
+      let is : s′ ≡ removal (eqb k 0) = rw (qt, ql, qc) in
+      settled (remove n) s s′ refl k e a q
+      (λ z r.
+      let w = remove-listed r in
+      is
+      ∙ ap removal z
+      ∙ ap (λ (j : ℕ). stateOf (set (s .threads) j noThread) (requeue j (take (s .count) (s .order)) ++ drop (s .count) (s .order)) (s .groups) (s .meter) (s .settings) (s .count - 1) (s .running)) (w .at)
+      ∙ ap (λ (o : List ℕ). stateOf (set (s .threads) n noThread) o (s .groups) (s .meter) (s .settings) (s .count - 1) (s .running)) (w .moved))
+      (λ z. is ∙ ap removal z ∙ ap (λ (l : List Thread). stateOf l (s .order) (s .groups) (s .meter) (s .settings) (s .count) (s .running)) (set-getD (s .threads) (n % 64) noThread))
+
+  pub wake-done : (k : ℕ) → k ≡ refusal (wake n) s → (a : Answer) → a ≡ cond (eqb k 0) Accepted (Refused k)
+      → (t : Thread) → t ≡ cond (eqb k 0) (wokenThread s (threadAt s (n % 64))) (threadAt s (n % 64))
+      → replyOf (answered a (withThread s (n % 64) t)) ≡ step (wake n) s
+  unfolding effect isDispatch withThread
+  wake-done k e a q t qt =
+      settled (wake n) s (withThread s (n % 64) t) refl k e a q
+      (λ z r.
+      let ok = passes (wake n) s r in
+      let w : t ≡ wokenThread s (threadAt s (n % 64)) = qt ∙ rw z in
+      ap (withThread s (n % 64)) w
+      ∙ ap (λ (j : ℕ). withThread s j (wokenThread s (threadAt s j))) (rest n (((facts s (ok .0)) .thread n (wake-passed s n (ok .1))) .small)))
+      (λ z.
+      let w : t ≡ threadAt s (n % 64) = qt ∙ rw z in
+      ap (withThread s (n % 64)) w
+      ∙ ap (λ (l : List Thread). stateOf l (s .order) (s .groups) (s .meter) (s .settings) (s .count) (s .running)) (set-getD (s .threads) (n % 64) noThread))

@@ -3,16 +3,18 @@
 use Prim.Native.Nat.{ℕ, _+_, _-_, _%_, min, _≤_}
 use mathlib.Core.Path.{_≡_, refl, sym, ap, subst, _∙_}
 use mathlib.Core.List.{List, [], _∷_, _++_}
-use mathlib.Core.Bool.{Bool, true, false, not, cond, _||_}
+use mathlib.Core.Bool.{Bool, true, false, not, cond, _&&_, _||_}
 use native.Mathlib.Omega.{arith}
 use lib.ListN.{take, drop, set}
+use lib.Seq.{set-getD}
 use lib.Dec.{ltb, eqb}
 use borrow.Author.Tests.{eqb-false}
 use Rattle.order.specs.Queue.{requeue}
 use Rattle.order.proofs.Bools.{cases, holds}
 use Rattle.scheduler.specs.declared.Thread.{Thread}
 use Rattle.scheduler.specs.declared.Scheduler.{Scheduler}
-use Rattle.scheduler.specs.declared.Answer.the-variants.{Accepted}
+use Rattle.scheduler.specs.declared.Answer.{Answer}
+use Rattle.scheduler.specs.declared.Answer.the-variants.{Accepted, Refused}
 use Rattle.scheduler.specs.State.{noThread, threadAt, sliceAt, allotmentAt, listed, stateOf, withThread, withList, withRun}
 use Rattle.scheduler.specs.Sound.{sound}
 use Rattle.scheduler.specs.Refusals.{report, _⇒_, firstOf, checks, refusal}
@@ -21,7 +23,7 @@ use Rattle.scheduler.specs.Rule.{isDispatch, step}
 use Rattle.scheduler.specs.Answers.{replyOf}
 use Rattle.scheduler.proofs.Facts.{facts, settings-facts}
 use Rattle.scheduler.proofs.Passed.{passes, report-passed}
-use Rattle.scheduler.proofs.Replies.{answered, accepted, rest, Listed, is-listed}
+use Rattle.scheduler.proofs.Replies.{answered, settled, rest, Listed, is-listed}
 
 -- The number.
 
@@ -77,28 +79,48 @@ module _ (s : Scheduler) (reason used : ℕ) where
           since = subst (λ (j : ℕ). (threadAt s j) .since ≤ 10000001000000) (sym (l .at)) (omega (arith, t .fit .since, k .meter));
         }
 
-    -- The new state.
+  -- The new state.
 
-    settled : (exit full : Bool)
-        → stateOf (set (s .threads) (s .running) (cond exit noThread (chargedThread s reason used (threadAt s (s .running))))) (cond (exit || full) (rear s (s .running)) (s .order))
-        (s .groups) (s .meter + used) (s .settings) (cond exit (s .count - 1) (s .count)) 64
-        ≡ cond exit (exited (s .running) used s)
-        (cond full (toRear (s .running) (charged (s .running) reason used s)) (charged (s .running) reason used s))
-    unfolding exited toRear offList charged withList withRun withThread rear listed
-    settled true full = refl
-    settled false true = refl
-    settled false false = refl
+  -- the state of a report that is accepted or not
+  abbrev after : Bool → Scheduler
+  after b =
+      stateOf (set (s .threads) (s .running % 64) (cond b (cond (eqb reason 3) noThread (chargedThread s reason used (threadAt s (s .running % 64)))) (threadAt s (s .running % 64))))
+      (cond (b && (eqb reason 3 || renewed reason used (threadAt s (s .running % 64)))) (requeue (s .running % 64) (take (s .count) (s .order)) ++ drop (s .count) (s .order)) (s .order))
+      (s .groups) (cond b (s .meter + used) (s .meter)) (s .settings) (cond (b && eqb reason 3) (s .count - 1) (s .count)) (cond b 64 (s .running))
 
-    pub report-done : (t : Thread) → t ≡ cond (eqb reason 3) noThread (chargedThread s reason used (threadAt s (s .running % 64)))
-        → (moves : Bool) → moves ≡ (eqb reason 3 || renewed reason used (threadAt s (s .running % 64)))
-        → (list : List ℕ) → list ≡ cond moves (requeue (s .running) (take (s .count) (s .order)) ++ drop (s .count) (s .order)) (s .order)
-        → (meter : ℕ) → meter ≡ s .meter + used
-        → (count : ℕ) → count ≡ cond (eqb reason 3) (s .count - 1) (s .count)
-        → replyOf (answered Accepted (stateOf (set (s .threads) (s .running % 64) t) list (s .groups) meter (s .settings) count 64)) ≡ step (report reason used) s
-    unfolding effect isDispatch reported
-    report-done t q1 moves q2 list q3 meter q4 count q5 =
-        let at = ready .list .at in
-        let moved = ready .list .moved in
-        accepted (report reason used) s (stateOf (set (s .threads) (s .running % 64) t) list (s .groups) meter (s .settings) count 64) refl e
-        ((cc)
-        ∙ settled (eqb reason 3) (renewed reason used (threadAt s (s .running))))
+  ended : (exit full : Bool)
+      → stateOf (set (s .threads) (s .running) (cond exit noThread (chargedThread s reason used (threadAt s (s .running))))) (cond (exit || full) (rear s (s .running)) (s .order))
+      (s .groups) (s .meter + used) (s .settings) (cond exit (s .count - 1) (s .count)) 64
+      ≡ cond exit (exited (s .running) used s)
+      (cond full (toRear (s .running) (charged (s .running) reason used s)) (charged (s .running) reason used s))
+  unfolding exited toRear offList charged withList withRun withThread rear listed
+  ended true full = refl
+  ended false true = refl
+  ended false false = refl
+
+  pub report-done : (k : ℕ) → k ≡ refusal (report reason used) s → (a : Answer) → a ≡ cond (eqb k 0) Accepted (Refused k)
+      → (t : Thread) → t ≡ cond (eqb k 0) (cond (eqb reason 3) noThread (chargedThread s reason used (threadAt s (s .running % 64)))) (threadAt s (s .running % 64))
+      → (moves : Bool) → moves ≡ (eqb reason 3 || renewed reason used (threadAt s (s .running % 64)))
+      → (list : List ℕ) → list ≡ cond (eqb k 0 && moves) (requeue (s .running % 64) (take (s .count) (s .order)) ++ drop (s .count) (s .order)) (s .order)
+      → (meter : ℕ) → meter ≡ cond (eqb k 0) (s .meter + used) (s .meter)
+      → (count : ℕ) → count ≡ cond (eqb k 0 && eqb reason 3) (s .count - 1) (s .count)
+      → (running : ℕ) → running ≡ cond (eqb k 0) 64 (s .running)
+      → replyOf (answered a (stateOf (set (s .threads) (s .running % 64) t) list (s .groups) meter (s .settings) count running)) ≡ step (report reason used) s
+  unfolding effect isDispatch reported
+  report-done k e a q t qt moves qv list ql meter qm count qc running qr =
+      let s′ = stateOf (set (s .threads) (s .running % 64) t) list (s .groups) meter (s .settings) count running in
+      let same : list ≡ cond (eqb k 0 && (eqb reason 3 || renewed reason used (threadAt s (s .running % 64)))) (requeue (s .running % 64) (take (s .count) (s .order)) ++ drop (s .count) (s .order)) (s .order)
+      = ql ∙ rw qv in
+      let is : s′ ≡ after (eqb k 0) = rw (qt, same, qm, qc, qr) in
+      settled (report reason used) s s′ refl k e a q
+      (λ z r.
+      let w = ready r .list in
+      is
+      ∙ ap after z
+      ∙ ap (λ (j : ℕ). stateOf (set (s .threads) j (cond (eqb reason 3) noThread (chargedThread s reason used (threadAt s j))))
+      (cond (eqb reason 3 || renewed reason used (threadAt s j)) (requeue j (take (s .count) (s .order)) ++ drop (s .count) (s .order)) (s .order)) (s .groups) (s .meter + used)
+      (s .settings) (cond (eqb reason 3) (s .count - 1) (s .count)) 64) (w .at)
+      ∙ ap (λ (o : List ℕ). stateOf (set (s .threads) (s .running) (cond (eqb reason 3) noThread (chargedThread s reason used (threadAt s (s .running)))))
+      (cond (eqb reason 3 || renewed reason used (threadAt s (s .running))) o (s .order)) (s .groups) (s .meter + used) (s .settings) (cond (eqb reason 3) (s .count - 1) (s .count)) 64) (w .moved)
+      ∙ ended (eqb reason 3) (renewed reason used (threadAt s (s .running))))
+      (λ z. is ∙ ap after z ∙ ap (λ (l : List Thread). stateOf l (s .order) (s .groups) (s .meter) (s .settings) (s .count) (s .running)) (set-getD (s .threads) (s .running % 64) noThread))

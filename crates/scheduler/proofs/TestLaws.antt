@@ -1,17 +1,18 @@
 -- Laws that the passes of the soundness test share: two tests that say the same are equal, and a table of sums after one of them was
 -- raised.
-use Prim.Native.Nat.{ℕ, _+_, _≤_, _<_}
+use Prim.Native.Nat.{ℕ, _+_, _*_, _≤_, _<_}
 use mathlib.Core.Path.{_≡_, refl, sym, subst, _∙_}
 use mathlib.Core.List.{List}
-use mathlib.Core.Bool.{Bool, true, false, cond, _||_}
+use mathlib.Core.Bool.{Bool, true, false, cond, _&&_, _||_}
 use native.Mathlib.Omega.{arith}
 use lib.ListN.{length, getD, set, replicate, length-set, getD-replicate}
 use lib.Seq.{getD-set-same, getD-set-other}
-use lib.Dec.{T, eqb}
+use lib.Dec.{T, leb, eqb}
 use mir.Syntax.{w64}
 use mir.Val.{Fits}
-use borrow.Author.Tests.{eqb-true, eqb-false}
+use borrow.Author.Tests.{eqb-true, eqb-false, le-leb, lt-leb, leb-false}
 use Rattle.order.proofs.Bools.{cases}
+use Rattle.scheduler.specs.Sound.{within}
 
 pub same : (a b : Bool) → (T a → T b) → (T b → T a) → a ≡ b
 same true true f g = refl
@@ -27,6 +28,31 @@ fails false b f e = refl
 pub or-none : (b : Bool) → (b || false) ≡ b
 or-none true = refl
 or-none false = refl
+
+pub and-none : (b : Bool) → (b && false) ≡ false
+and-none true = refl
+and-none false = refl
+
+-- A reservation f and its allotment a. No allotment of at least 1 fits a reservation of 0, so that one is not tested for.
+
+module _ (f a m : ℕ) where
+  pub quota-over : 1000 < f → false ≡ (within 1 1000 f && within 1 (f * m) a)
+  unfolding within
+  quota-over h = sym (rw (lt-leb f 1000 h, and-none (leb 1 f)))
+
+  pub quota-none : a < 1 → false ≡ (within 1 1000 f && within 1 (f * m) a)
+  unfolding within
+  quota-none h = sym (rw (lt-leb 1 a h, and-none (leb 1 f && leb f 1000)))
+
+  pub quota-fits : f ≤ 1000 → 1 ≤ a → leb a (f * m) ≡ (within 1 1000 f && within 1 (f * m) a)
+  unfolding within
+  quota-fits h i =
+      cases (leb 1 f)
+      (λ e. rw (e, le-leb f 1000 h, le-leb 1 a i))
+      (λ e.
+      let z : f ≡ 0 = omega (arith, leb-false 1 f e) in
+      let over : f * m < a = subst (λ (k : ℕ). k * m < a) (sym z) (omega arith) in
+      rw (e, lt-leb a (f * m) over))
 
 pub strict : {m n : ℕ} → m ≤ n → (m ≡ n → ⊥) → m < n
 strict h n = omega (arith, n)

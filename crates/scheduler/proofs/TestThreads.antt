@@ -233,12 +233,12 @@ module _ {threads : List Thread} {groups : List Group} {seen : List Bool} {m met
     fail g {ok} {after} f s q =
         threads-fail (given s threads groups m meter running) i more (λ z. g s q (entry-facts (given s threads groups m meter running) i admitted z)) ok after f
 
-    pub inv-place : (ltb 2 ((getD threads i noThread) .status) || not (getD seen i false)) ≡ true → {ok : Bool} {after : List ℕ} → ok ≡ false
-        → Answers threads groups seen m meter running ok after
+    pub inv-place : getD seen i false ≡ false → {ok : Bool} {after : List ℕ} → ok ≡ false → Answers threads groups seen m meter running ok after
     unfolding listed
-    inv-place e = fail (λ s q z.
-        let t = getD threads i noThread in
-        clash (ltb 2 (t .status) || not (getD seen i false)) e (rw (le-ltb 2 (t .status) (z .valid), q i more ∙ z .placed)))
+    inv-place e = fail (λ s q z. clash (getD seen i false) (q i more ∙ z .placed) e)
+
+    pub inv-status : 2 < (getD threads i noThread) .status → {ok : Bool} {after : List ℕ} → ok ≡ false → Answers threads groups seen m meter running ok after
+    inv-status h = fail (λ s q z. absurd (omega (arith, z .valid)))
 
     pub inv-bounds : {b : Bool} → b ≡ boundsOk m meter (getD threads i noThread) → not b ≡ true → {ok : Bool} {after : List ℕ} → ok ≡ false
         → Answers threads groups seen m meter running ok after
@@ -251,7 +251,7 @@ module _ {threads : List Thread} {groups : List Group} {seen : List Bool} {m met
     inv-home n = fail (λ s q z. n (z .home))
 
     -- one that passes
-    module _ {b : Bool} (place : (ltb 2 ((getD threads i noThread) .status) || not (getD seen i false)) ≡ false)
+    module _ {b : Bool} (place : getD seen i false ≡ true) (valid : (getD threads i noThread) .status ≤ 2)
         (bounds : b ≡ boundsOk m meter (getD threads i noThread)) (fit : b ≡ true)
         (home : (getD groups ((getD threads i noThread) .group) noGroup) .opened ≡ 1) where
       numbers : Numbers m meter (getD threads i noThread)
@@ -262,8 +262,8 @@ module _ {threads : List Thread} {groups : List Group} {seen : List Bool} {m met
       entry s q =
           let t = getD threads i noThread in
           record {
-            valid = ltb-false 2 (t .status) (or-false-l (ltb 2 (t .status)) (not (getD seen i false)) place);
-            placed = sym (q i more) ∙ not-false (getD seen i false) (or-false-r (ltb 2 (t .status)) (not (getD seen i false)) place);
+            valid = valid;
+            placed = sym (q i more) ∙ place;
             numbers = numbers;
             home = home;
           }

@@ -9,3 +9,4 @@ pub mod Stretch
 pub mod Tree
 pub mod TestParts
 pub mod Subtree
+pub mod Batch

@@ -1,23 +1,26 @@
 // The calls on groups, admission, and the reservations down the group tree. What a group has free is its ceiling less the reservations
-// of its threads, which the soundness test adds up, and the ceilings of its child groups.
+// of its threads, which the soundness test adds up, and the ceilings of its child groups. Each call decides its number first and then
+// stores on every path, the old values if it is refused: with a store on one path only, the compiled call copies the state once more.
+// `open` and `close` read the old group from the copy of the groups: the compiler drops a store of what was read from the same place.
 ghost use mathlib.Core.Path.{_≡_};
 ghost use mathlib.Core.Bool.{true, not, cond, _&&_};
 ghost use mathlib.Core.List.{[], _∷_};
-ghost use Prim.Native.Nat.{_≤_, _<_};
+ghost use Prim.Native.Nat.{_+_, _≤_, _<_};
 ghost use lib.Dec.{ltb, eqb};
-ghost use Rattle.scheduler.specs.State.{isOpen, openAt, threadAt};
+ghost use Rattle.scheduler.specs.State.{noGroup, isOpen, openAt, threadAt};
 ghost use Rattle.scheduler.specs.Sound.{within, ceilingsIn, load, sound};
 ghost use Rattle.scheduler.specs.Refusals.{_⇒_, firstOf, free, refusal, openGroup, closeGroup, admit};
+ghost use Rattle.scheduler.specs.Effects.{newThread};
 ghost use Rattle.scheduler.specs.Rule.{step};
 ghost use Rattle.scheduler.specs.Answers.{replyOf, subtreeOf};
 ghost use Rattle.scheduler.specs.Tree.{subtreeTotal};
 ghost use Rattle.scheduler.specs.Subtree.{subtreeReply, Rooted};
 ghost use Rattle.scheduler.specs.TestParts.{Sums};
-use crate::Answer;
 use crate::Answered;
 use crate::Group;
 use crate::Scheduler;
 use crate::Thread;
+use crate::run;
 
 const GROUPS: u64 = Scheduler::GROUPS as u64;
 
@@ -41,6 +44,80 @@ impl Group {
     {
         if self.under(parent) { self.ceiling } else { 0 }
     }
+
+    // The group after a call to open it.
+    fn opened_if(self, accepted: bool, parent: u64, ceiling: u64) -> Self
+        requires { ⌜ (accepted ≡ true → (parent < 256) × (ceiling < 65536)) ⌝ }
+        ensures { λ r. ⌜ r ≡ cond accepted (record { ceiling = ceiling; parent = parent; opened = 1 }) self ⌝ }
+    {
+        if accepted {
+            return Self {
+                ceiling: ceiling as u16,
+                parent: parent as u8,
+                opened: 1,
+            };
+        }
+        self
+    }
+
+    // The group after a call to close it.
+    fn closed_if(self, accepted: bool) -> Self
+        ensures { λ r. ⌜ r ≡ cond accepted noGroup self ⌝ }
+    {
+        if accepted {
+            return Self {
+                ceiling: 0,
+                parent: 0,
+                opened: 0,
+            };
+        }
+        self
+    }
+}
+
+impl Thread {
+    // The thread after a call to admit it.
+    fn admitted_if(
+        self,
+        accepted: bool,
+        meter: u64,
+        thousandth: u32,
+        group: u64,
+        reservation: u64,
+    ) -> Self
+        requires { ⌜ (accepted ≡ true → (thousandth ≤ 1000) × (group < 256) × (reservation ≤ 1000)) ⌝ }
+        ensures { λ r. ⌜ ((s : Scheduler) → s .meter ≡ meter → s .settings .thousandth ≡ thousandth
+            → r ≡ cond accepted (newThread s group reservation) self) ⌝ }
+    {
+        if accepted {
+            return Self {
+                admission: meter,
+                anchor: meter,
+                ticks: 0,
+                since: 0,
+                allotment: reservation as u32 * thousandth,
+                reservation: reservation as u16,
+                group: group as u8,
+                status: Self::RUNNABLE,
+            };
+        }
+        self
+    }
+}
+
+// The entry past the list's end after a call to admit a thread, whose number goes there.
+fn place_if(accepted: bool, old: u8, number: u8) -> u8
+    ensures { λ r. ⌜ r ≡ cond accepted number old ⌝ }
+{
+    if accepted { number } else { old }
+}
+
+// The list's length after a call to admit a thread.
+fn count_if(accepted: bool, count: u32) -> u32
+    requires { ⌜ (accepted ≡ true → count < 64) ⌝ }
+    ensures { λ r. ⌜ r ≡ cond accepted (count + 1) count ⌝ }
+{
+    if accepted { count + 1 } else { count }
 }
 
 // Whether a group is open.
@@ -221,18 +298,12 @@ impl Scheduler {
         let groups = self.groups;
         let used = load_of(groups, reserved, parent);
         let code = open_code(test.ok, groups, used, number, parent, ceiling);
-        let mut answer = Answer::Refused(code);
-        if code == 0 {
-            let at = number as usize;
-            self.groups[at] = Group {
-                ceiling: ceiling as u16,
-                parent: parent as u8,
-                opened: 1,
-            };
-            answer = Answer::Accepted;
-        }
+        let at = (number % GROUPS) as usize;
+        let old = groups[at];
+        let group = old.opened_if(code == 0, parent, ceiling);
+        self.groups[at] = group;
         Answered {
-            answer: answer,
+            answer: run::answered(code),
             state: self,
         }
     }
@@ -246,18 +317,12 @@ impl Scheduler {
         let groups = self.groups;
         let used = load_of(groups, reserved, number);
         let code = close_code(test.ok, groups, used, number);
-        let mut answer = Answer::Refused(code);
-        if code == 0 {
-            let at = number as usize;
-            self.groups[at] = Group {
-                ceiling: 0,
-                parent: 0,
-                opened: 0,
-            };
-            answer = Answer::Accepted;
-        }
+        let at = (number % GROUPS) as usize;
+        let old = groups[at];
+        let group = old.closed_if(code == 0);
+        self.groups[at] = group;
         Answered {
-            answer: answer,
+            answer: run::answered(code),
             state: self,
         }
     }
@@ -281,27 +346,22 @@ impl Scheduler {
             group,
             reservation,
         );
-        let mut answer = Answer::Refused(code);
-        if code == 0 {
-            let meter = self.meter;
-            let count = self.count;
-            self.threads[at] = Thread {
-                admission: meter,
-                anchor: meter,
-                ticks: 0,
-                since: 0,
-                allotment: reservation as u32 * self.settings.thousandth,
-                reservation: reservation as u16,
-                group: group as u8,
-                status: Thread::RUNNABLE,
-            };
-            let rear = count as usize;
-            self.order[rear] = number as u8;
-            self.count = count + 1;
-            answer = Answer::Accepted;
-        }
+        let accepted = code == 0;
+        let count = self.count;
+        let rear = (count % 64) as usize;
+        let last = self.order[rear];
+        let thread = old.admitted_if(
+            accepted,
+            self.meter,
+            self.settings.thousandth,
+            group,
+            reservation,
+        );
+        self.threads[at] = thread;
+        self.order[rear] = place_if(accepted, last, at as u8);
+        self.count = count_if(accepted, count);
         Answered {
-            answer: answer,
+            answer: run::answered(code),
             state: self,
         }
     }

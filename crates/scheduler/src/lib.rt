@@ -2,6 +2,7 @@
 ghost use mathlib.Core.Path.{_≡_};
 ghost use Rattle.scheduler.specs.State.{defaultSettings};
 
+pub mod batch;
 pub mod groups;
 pub mod priority;
 pub mod run;

@@ -1,13 +1,15 @@
-// Start, and the calls on threads: remove, wake, dispatch and report. Each decides its answer first and then writes the state.
-// A thread number above 63 is refused whatever the entry that stands for it holds.
+// Start, and the calls on threads: remove, wake, dispatch and report. Each decides its answer first and then writes the state, with the
+// old values if it is refused: so the compiler keeps one state and copies it out once. A thread number above 63 is refused
+// whatever the entry that stands for it holds.
 ghost use mathlib.Core.Path.{_≡_};
-ghost use mathlib.Core.Bool.{not, cond, _||_};
+ghost use mathlib.Core.Bool.{true, not, cond, _||_};
 ghost use mathlib.Core.List.{[], _∷_, _++_};
 ghost use Prim.Native.Nat.{_+_, _-_, _*_, min, _≤_, _<_};
 ghost use lib.Dec.{ltb, leb, eqb};
 ghost use lib.ListN.{take, drop};
 ghost use Rattle.order.specs.Queue.{requeue};
 ghost use Rattle.scheduler.specs.State.{noThread};
+ghost use Rattle.scheduler.specs.Sound.{sound};
 ghost use Rattle.scheduler.specs.Refusals.{remove, wake, dispatch, report, _⇒_, firstOf, startRefusal};
 ghost use Rattle.scheduler.specs.Effects.{renewed, chargedThread, wokenThread, unstarted};
 ghost use Rattle.scheduler.specs.Rule.{step, startReply};
@@ -34,6 +36,33 @@ fn charge(total: u64, used: u64) -> u64
     ensures { λ r. ⌜ r ≡ total + used ⌝ }
 {
     total + used
+}
+
+// The answer of a call with a refusal's number, 0 for none.
+pub(crate) fn answered(code: u32) -> Answer
+    ensures { λ r. ⌜ r ≡ cond (eqb code 0) Answer.Accepted (Answer.Refused code) ⌝ }
+{
+    if code == 0 {
+        return Answer::Accepted;
+    }
+    Answer::Refused(code)
+}
+
+// The answer of a dispatch with a refusal's number, and whether it found a thread.
+fn dispatched(code: u32, found: bool, number: u32, slice: u32, before: u32) -> Answer
+    ensures { λ r. ⌜ r ≡ cond (eqb code 0) (cond found (Answer.Run number slice before) (Answer.Idle before)) (Answer.Refused code) ⌝ }
+{
+    if code != 0 {
+        return Answer::Refused(code);
+    }
+    if found {
+        return Answer::Run {
+            thread: number,
+            slice: slice,
+            before: before,
+        };
+    }
+    Answer::Idle(before)
 }
 
 impl Thread {
@@ -67,24 +96,26 @@ impl Thread {
         }
     }
 
-    // The answer of a dispatch that takes this thread, with a number of threads before it.
-    fn taken(self, number: u32, interval: u32, before: u32) -> Answer
-        ensures { λ r. ⌜ r ≡ Answer.Run number (min (self .allotment) interval) before ⌝ }
+    // The thread after a wake.
+    fn woken(mut self, accepted: bool, meter: u64) -> Self
+        ensures { λ r. ⌜ ((s : Scheduler) → s .meter ≡ meter → r ≡ cond accepted (wokenThread s self) self) ⌝ }
     {
-        let slice = self.slice(interval);
-        Answer::Run {
-            thread: number,
-            slice: slice,
-            before: before,
+        if accepted {
+            self.anchor = meter;
+            self.since = 0;
+            self.status = Self::RUNNABLE;
+            return self;
         }
+        self
     }
 
-    fn woken(mut self, meter: u64) -> Self
-        ensures { λ r. ⌜ ((s : Scheduler) → s .meter ≡ meter → r ≡ wokenThread s self) ⌝ }
+    // The thread after a removal.
+    fn freed(self, accepted: bool) -> Self
+        ensures { λ r. ⌜ r ≡ cond accepted noThread self ⌝ }
     {
-        self.anchor = meter;
-        self.since = 0;
-        self.status = Self::RUNNABLE;
+        if accepted {
+            return Self::none();
+        }
         self
     }
 
@@ -119,7 +150,7 @@ impl Thread {
         self.allotment - used as u32
     }
 
-    // The thread after a report, which leaves the meter at `meter`.
+    // The thread after a report that is accepted and leaves the meter at `meter`.
     fn charged(mut self, meter: u64, thousandth: u32, reason: u64, used: u64) -> Self
         requires { ⌜ (thousandth ≤ 1000)
             × (used ≤ 1000000)
@@ -149,9 +180,35 @@ impl Thread {
         }
         self
     }
+
+    // The thread after a report.
+    fn reported(self, accepted: bool, meter: u64, thousandth: u32, reason: u64, used: u64) -> Self
+        requires { ⌜ (accepted ≡ true → (thousandth ≤ 1000)
+            × (used ≤ 1000000)
+            × (self .ticks ≤ 10000001000000)
+            × (self .since ≤ 10000001000000)) ⌝ }
+        ensures { λ r. ⌜ ((s : Scheduler) → (accepted ≡ true → s .meter + used ≡ meter) → s .settings .thousandth ≡ thousandth
+            → r ≡ cond accepted (cond (eqb reason 3) noThread (chargedThread s reason used self)) self) ⌝ }
+    {
+        if accepted {
+            return self.charged(meter, thousandth, reason, used);
+        }
+        self
+    }
 }
 
-// The list after a report.
+// The meter after a report.
+fn meter_after(accepted: bool, meter: u64, used: u64) -> u64
+    requires { ⌜ (accepted ≡ true → (meter ≤ 10000001000000) × (used ≤ 1000000)) ⌝ }
+    ensures { λ r. ⌜ r ≡ cond accepted (meter + used) meter ⌝ }
+{
+    if accepted {
+        return charge(meter, used);
+    }
+    meter
+}
+
+// The list after a removal or a report.
 fn requeued(list: [u8; 64], count: usize, number: u8, moves: bool) -> [u8; 64]
     ensures { λ r. ⌜ r ≡ cond moves (requeue number (take count list) ++ drop count list) list ⌝ }
 {
@@ -161,12 +218,35 @@ fn requeued(list: [u8; 64], count: usize, number: u8, moves: bool) -> [u8; 64]
     list
 }
 
-// The list's length after a report.
-fn count_after(count: u32, reason: u64) -> u32
-    requires { ⌜ 0 < count ⌝ }
-    ensures { λ r. ⌜ r ≡ cond (eqb reason 3) (count - 1) count ⌝ }
+// The list's length after a removal or a report.
+fn count_after(count: u32, ends: bool) -> u32
+    requires { ⌜ (ends ≡ true → 0 < count) ⌝ }
+    ensures { λ r. ⌜ r ≡ cond ends (count - 1) count ⌝ }
 {
-    if reason == EXIT { count - 1 } else { count }
+    if ends {
+        return count - 1;
+    }
+    count
+}
+
+// The running thread after a dispatch or a report.
+fn running_after(changes: bool, next: u32, running: u32) -> u32
+    ensures { λ r. ⌜ r ≡ cond changes next running ⌝ }
+{
+    if changes {
+        return next;
+    }
+    running
+}
+
+// How much of the list a dispatch looks at.
+fn searched(code: u32, count: u32) -> u32
+    ensures { λ r. ⌜ r ≡ cond (eqb code 0) count 0 ⌝ }
+{
+    if code == 0 {
+        return count;
+    }
+    0
 }
 
 // The number that a start is refused with, or 0.
@@ -316,81 +396,27 @@ impl Scheduler {
     }
 
     // Takes a thread off the list and frees its number and reservation.
-    pub fn remove(mut self, number: u64) -> Answered
+    pub fn remove(self, number: u64) -> Answered
         ensures { λ r. ⌜ replyOf r ≡ step (remove number) self ⌝ }
     {
         let ok = self.sound();
-        let at = (number % Self::THREADS as u64) as usize;
-        let status = self.threads[at].status;
-        let code = remove_code(ok, number, status, self.running);
-        let mut answer = Answer::Refused(code);
-        if code == 0 {
-            let count = self.count;
-            let list = self.order;
-            let moved = order::rear(list, count as usize, number as u8);
-            let none = Thread::none();
-            self.threads[at] = none;
-            self.order = moved;
-            self.count = count - 1;
-            answer = Answer::Accepted;
-        }
-        Answered {
-            answer: answer,
-            state: self,
-        }
+        self.remove_given(ok, number)
     }
 
     // Makes a blocked thread runnable.
-    pub fn wake(mut self, number: u64) -> Answered
+    pub fn wake(self, number: u64) -> Answered
         ensures { λ r. ⌜ replyOf r ≡ step (wake number) self ⌝ }
     {
         let ok = self.sound();
-        let at = (number % Self::THREADS as u64) as usize;
-        let thread = self.threads[at];
-        let code = wake_code(ok, number, thread.status);
-        let mut answer = Answer::Refused(code);
-        if code == 0 {
-            let woken = thread.woken(self.meter);
-            self.threads[at] = woken;
-            answer = Answer::Accepted;
-        }
-        Answered {
-            answer: answer,
-            state: self,
-        }
+        self.wake_given(ok, number)
     }
 
     // Takes the first runnable thread of the list. `before` counts the entries passed, which are blocked.
-    pub fn dispatch(mut self) -> Answered
+    pub fn dispatch(self) -> Answered
         ensures { λ r. ⌜ replyOf r ≡ step dispatch self ⌝ }
     {
         let ok = self.sound();
-        let code = dispatch_code(ok, self.running, self.meter);
-        let mut answer = Answer::Refused(code);
-        if code == 0 {
-            let count = self.count;
-            let mut before: u32 = 0;
-            while before < count {
-                let number = self.order[before as usize];
-                let thread = self.threads[number as usize];
-                let status = thread.status;
-                if status == Thread::RUNNABLE {
-                    let chosen = number as u32;
-                    let run = thread.taken(chosen, self.settings.interval, before);
-                    self.running = chosen;
-                    return Answered {
-                        answer: run,
-                        state: self,
-                    };
-                }
-                before += 1;
-            }
-            answer = Answer::Idle(before);
-        }
-        Answered {
-            answer: answer,
-            state: self,
-        }
+        self.dispatch_given(ok)
     }
 
     // Charges the running thread the ticks used, and ends its run.
@@ -398,28 +424,101 @@ impl Scheduler {
         ensures { λ r. ⌜ replyOf r ≡ step (report reason used) self ⌝ }
     {
         let ok = self.sound();
+        self.report_given(ok, reason, used)
+    }
+
+    // The calls with the result of the soundness test.
+
+    pub(crate) fn remove_given(mut self, ok: bool, number: u64) -> Answered
+        requires { ⌜ ok ≡ sound self ⌝ }
+        ensures { λ r. ⌜ replyOf r ≡ step (remove number) self ⌝ }
+    {
+        let at = (number % Self::THREADS as u64) as usize;
+        let thread = self.threads[at];
+        let code = remove_code(ok, number, thread.status, self.running);
+        let accepted = code == 0;
+        let count = self.count;
+        let list = self.order;
+        let freed = thread.freed(accepted);
+        let moved = requeued(list, count as usize, at as u8, accepted);
+        self.threads[at] = freed;
+        self.order = moved;
+        self.count = count_after(count, accepted);
+        Answered {
+            answer: answered(code),
+            state: self,
+        }
+    }
+
+    pub(crate) fn wake_given(mut self, ok: bool, number: u64) -> Answered
+        requires { ⌜ ok ≡ sound self ⌝ }
+        ensures { λ r. ⌜ replyOf r ≡ step (wake number) self ⌝ }
+    {
+        let at = (number % Self::THREADS as u64) as usize;
+        let thread = self.threads[at];
+        let code = wake_code(ok, number, thread.status);
+        let woken = thread.woken(code == 0, self.meter);
+        self.threads[at] = woken;
+        Answered {
+            answer: answered(code),
+            state: self,
+        }
+    }
+
+    pub(crate) fn dispatch_given(mut self, ok: bool) -> Answered
+        requires { ⌜ ok ≡ sound self ⌝ }
+        ensures { λ r. ⌜ replyOf r ≡ step dispatch self ⌝ }
+    {
+        let running = self.running;
+        let code = dispatch_code(ok, running, self.meter);
+        let count = searched(code, self.count);
+        let mut stop = count;
+        let mut before: u32 = 0;
+        while before < stop {
+            let number = self.order[before as usize];
+            let thread = self.threads[number as usize];
+            let status = thread.status;
+            if status == Thread::RUNNABLE {
+                stop = before;
+                continue;
+            }
+            before += 1;
+        }
+        let found = before < count;
+        let place = (before % Self::THREADS) as usize;
+        let number = self.order[place] as u32 % Self::THREADS;
+        let thread = self.threads[number as usize];
+        let slice = thread.slice(self.settings.interval);
+        self.running = running_after(found, number, running);
+        Answered {
+            answer: dispatched(code, found, number, slice, before),
+            state: self,
+        }
+    }
+
+    pub(crate) fn report_given(mut self, ok: bool, reason: u64, used: u64) -> Answered
+        requires { ⌜ ok ≡ sound self ⌝ }
+        ensures { λ r. ⌜ replyOf r ≡ step (report reason used) self ⌝ }
+    {
         let running = self.running;
         let at = (running % Self::THREADS) as usize;
         let thread = self.threads[at];
         let slice = thread.slice(self.settings.interval);
         let code = report_code(ok, running, reason, slice, used);
-        let mut answer = Answer::Refused(code);
-        if code == 0 {
-            let count = self.count;
-            let list = self.order;
-            let meter = charge(self.meter, used);
-            let moves = thread.moves(reason, used);
-            let charged = thread.charged(meter, self.settings.thousandth, reason, used);
-            let moved = requeued(list, count as usize, running as u8, moves);
-            self.threads[at] = charged;
-            self.order = moved;
-            self.count = count_after(count, reason);
-            self.running = Self::THREADS;
-            self.meter = meter;
-            answer = Answer::Accepted;
-        }
+        let charges = code == 0;
+        let count = self.count;
+        let list = self.order;
+        let meter = meter_after(charges, self.meter, used);
+        let reported = thread.reported(charges, meter, self.settings.thousandth, reason, used);
+        let moves = charges & thread.moves(reason, used);
+        let moved = requeued(list, count as usize, at as u8, moves);
+        self.threads[at] = reported;
+        self.order = moved;
+        self.count = count_after(count, charges & (reason == EXIT));
+        self.running = running_after(charges, Self::THREADS, running);
+        self.meter = meter;
         Answered {
-            answer: answer,
+            answer: answered(code),
             state: self,
         }
     }

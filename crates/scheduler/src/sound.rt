@@ -54,15 +54,13 @@ fn quota_ok(reservation: u32, allotment: u32, m: u32) -> bool
     requires { ⌜ (reservation < 65536) × (m ≤ 1000) ⌝ }
     ensures { λ r. ⌜ r ≡ (within 1 1000 reservation && within 1 (reservation * m) allotment) ⌝ }
 {
-    if reservation < 1 {
-        return false;
-    }
     if Scheduler::WHOLE < reservation {
         return false;
     }
     if allotment < 1 {
         return false;
     }
+    // No allotment fits a reservation of 0.
     allotment <= reservation * m
 }
 
@@ -153,22 +151,25 @@ fn threads_pass(
     while i < THREADS {
         let t = threads[i];
         let status = t.status;
-        if status == 0 {
-            if seen[i] {
+        if !seen[i] {
+            if status != 0 {
                 return failed();
             }
             i += 1;
             continue;
         }
-        if (2 < status) | !seen[i] {
+        if status == 0 {
+            return failed();
+        }
+        if 2 < status {
             return failed();
         }
         if !bounds_ok(t, m, meter) {
             return failed();
         }
         let g = t.group as usize;
-        let home = groups[g];
-        if home.opened != 1 {
+        let opened = groups[g].opened;
+        if opened != 1 {
             return failed();
         }
         used[g] = used[g] + t.reservation as u32;

@@ -350,7 +350,8 @@ layout! {
     lag = 16, 8;
 }
 
-/// A record as numbers. Not every value has a form in a block: see has_form.
+/// A record as numbers. It has a form in a block if its kind is known and the
+/// fields that its kind does not use are zero.
 #[repr(C)]
 #[derive(Clone, Copy, Debug, PartialEq, Eq, Default)]
 pub struct Record {

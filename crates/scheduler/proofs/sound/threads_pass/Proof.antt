@@ -1,15 +1,15 @@
 -- `threads_pass` meets its contract. The invariant is `ThreadsInv`; the measure is what is left of the table. Assumes nothing.
-use Prim.Native.Nat.{_-_, _<_}
+use Prim.Native.Nat.{ℕ, _-_, _<_}
 use mathlib.Core.Path.{sym, _∙_}
 use lib.ListN.{getD}
 use lib.Dec.{lit<}
 use mir.Facts.{fits-8-64, fits-widen}
 use borrow.Author.Count.{falls}
 use borrow.Author.Needs.{scaled-fits}
-use borrow.Author.Tests.{not-false}
+use borrow.Author.Tests.{not-true, not-false}
 use Rattle.scheduler.specs.State.{noThread}
 use Rattle.scheduler.proofs.TestLaws.{strict, next-fits}
-use Rattle.scheduler.proofs.TestThreads.{numbers-of, ThreadsInv, inv-none, inv-skip, inv-free, inv-place, inv-bounds, inv-home, inv-add, sum-fits, inv-idle, inv-run}
+use Rattle.scheduler.proofs.TestThreads.{numbers-of, ThreadsInv, inv-none, inv-skip, inv-free, inv-place, inv-status, inv-bounds, inv-home, inv-add, sum-fits, inv-idle, inv-run}
 use Rattle.scheduler.proofs.sound.threads_pass.Statement.{statement}
 use Rattle.scheduler.proofs.sound.threads_pass.Tie as tie
 
@@ -28,14 +28,17 @@ mul-t c = scaled-fits (c .before .loop .i) 64 40 (c .loop-test .taken) (lit< tt)
 array-copy-out-t : tie.Need-array-copy-out-t Inv-loop μ-loop
 array-copy-out-t c = c .loop-test .taken
 
-array-read-if2 : tie.Need-array-read-if2 Inv-loop μ-loop
-array-read-if2 c = c .before .before .loop-test .taken
+array-read-if1 : tie.Need-array-read-if1 Inv-loop μ-loop
+array-read-if1 c = c .before .loop-test .taken
 
 failed-requires : tie.Need-failed-requires Inv-loop μ-loop
 failed-requires c κs = tt
 
 returns : tie.Need-returns Inv-loop μ-loop
-returns c = inv-free (c .before .before .before .before .before .loop .inv) (c .before .before .before .before .loop-test .taken) (c .before .before .if1 .taken) (c .before .if2 .taken) (c .failed .ensures)
+returns c =
+    let f = c .before .before in
+    let t = f .before .before in
+    inv-place (t .before .loop .inv) (t .loop-test .taken) (c .before .if2 .taken) (not-true _ (f .if1 .taken)) (c .failed .ensures)
 
 add-i : tie.Need-add-i Inv-loop μ-loop
 add-i c = next-fits (c .before .before .before .before .loop .i) (c .before .before .before .loop-test .taken)
@@ -44,81 +47,116 @@ loop-less : tie.Need-loop-less Inv-loop μ-loop
 loop-less c = falls 64 (c .before .before .before .before .loop .i) (c .before .before .before .loop-test .taken)
 
 loop-again : tie.Need-loop-again Inv-loop μ-loop
-loop-again c = inv-skip (c .before .before .before .before .loop .inv) (c .before .before .before .loop-test .taken) (c .before .if1 .taken) (c .if2 .left)
-
-array-read-if3 : tie.Need-array-read-if3 Inv-loop μ-loop
-array-read-if3 c = c .before .before .loop-test .taken
+loop-again c = inv-skip (c .before .before .before .before .loop .inv) (c .before .before .before .loop-test .taken) (c .if2 .left) (not-true _ (c .before .if1 .taken))
 
 failed-requires-2 : tie.Need-failed-requires-2 Inv-loop μ-loop
 failed-requires-2 c κs = tt
 
 returns-2 : tie.Need-returns-2 Inv-loop μ-loop
-returns-2 c = inv-place (c .before .before .before .before .before .loop .inv) (c .before .before .before .before .loop-test .taken) (c .before .before .if1 .left) (c .before .if3 .taken) (c .failed2 .ensures)
-
-bounds-ok-requires : tie.Need-bounds-ok-requires Inv-loop μ-loop
-bounds-ok-requires c κs = c .before .before .before .before .before .pre .0
+returns-2 c =
+    let f = c .before .before in
+    let t = f .before .before in
+    inv-free (t .before .loop .inv) (t .loop-test .taken) (c .before .if3 .taken) (not-false _ (f .if1 .left)) (c .failed2 .ensures)
 
 failed-requires-3 : tie.Need-failed-requires-3 Inv-loop μ-loop
 failed-requires-3 c κs = tt
 
 returns-3 : tie.Need-returns-3 Inv-loop μ-loop
-returns-3 c = inv-bounds (c .before .before .before .before .before .before .before .loop .inv) (c .before .before .before .before .before .before .loop-test .taken) (c .before .before .before .before .if1 .left) (c .before .before .bounds-ok .ensures) (c .before .if4 .taken) (c .failed3 .ensures)
+returns-3 c =
+    let f = c .before .before in
+    let t = f .before .before .before in
+    inv-status (t .before .loop .inv) (t .loop-test .taken) (f .if3 .left) (c .before .if4 .taken) (c .failed3 .ensures)
 
-cast-g : tie.Need-cast-g Inv-loop μ-loop
-cast-g c = fits-8-64 (c .struct-known .given .1 .1 .1 .1 .1 .1 .0)
-
--- the thread's group is below 16
-low : (c : tie.After-struct-known Inv-loop μ-loop) → (getD (c .before .before .before .before .before .before .before .before .args .t1) (c .before .before .before .before .before .before .before .loop .i) noThread) .group < 16
-low c =
-    let s = c .before .before .before .before .before .before .before .before in
-    numbers-of (s .args .m) (s .args .meter) (getD (s .args .t1) (c .before .before .before .before .before .before .before .loop .i) noThread)
-    (sym (c .before .before .bounds-ok .ensures) ∙ not-false _ (c .before .if4 .left)) .low
-
-mul-home : tie.Need-mul-home Inv-loop μ-loop
-mul-home c = scaled-fits ((getD (c .before .before .before .before .before .before .before .before .args .t1) (c .before .before .before .before .before .before .before .loop .i) noThread) .group) 16 4 (low c) (lit< tt)
-
-array-copy-out-home : tie.Need-array-copy-out-home Inv-loop μ-loop
-array-copy-out-home c = low c
+bounds-ok-requires : tie.Need-bounds-ok-requires Inv-loop μ-loop
+bounds-ok-requires c κs = c .before .before .before .before .before .before .pre .0
 
 failed-requires-4 : tie.Need-failed-requires-4 Inv-loop μ-loop
 failed-requires-4 c κs = tt
 
 returns-4 : tie.Need-returns-4 Inv-loop μ-loop
-returns-4 c = inv-home (c .before .before .before .before .before .before .before .before .before .before .before .loop .inv) (c .before .before .before .before .before .before .before .before .before .before .loop-test .taken) (c .before .before .before .before .before .before .before .before .if1 .left) (c .before .if5 .taken) (c .failed4 .ensures)
+returns-4 c =
+    let b = c .before .before in
+    let f = b .before .before in
+    let t = f .before .before .before in
+    inv-bounds (t .before .loop .inv) (t .loop-test .taken) (f .if3 .left) (b .bounds-ok .ensures) (c .before .if5 .taken) (c .failed4 .ensures)
 
-mul-used : tie.Need-mul-used Inv-loop μ-loop
-mul-used c = scaled-fits ((getD (c .before .before .before .before .before .before .before .before .before .before .before .args .t1) (c .before .before .before .before .before .before .before .before .before .before .loop .i) noThread) .group) 16 4 (low (c .before .before .before)) (lit< tt)
+cast-g : tie.Need-cast-g Inv-loop μ-loop
+cast-g c = fits-8-64 (c .struct-known .given .1 .1 .1 .1 .1 .1 .0)
 
-array-read-used : tie.Need-array-read-used Inv-loop μ-loop
-array-read-used c = low (c .before .before .before)
+-- after the numbers' test: the loop, the thread, and its group, which is below 16
+module _ (c : tie.After-struct-known Inv-loop μ-loop) where
+  abbrev turn : tie.In-loop Inv-loop μ-loop
+  turn = c .before .before .before .before .before .before .before
 
-cast-used : tie.Need-cast-used Inv-loop μ-loop
-cast-used c = fits-widen tt (c .struct-known3 .given .1 .1 .1 .1 .1 .0)
+  abbrev group : ℕ
+  group = (getD (turn .before .before .args .t1) (turn .before .loop .i) noThread) .group
 
-add-used : tie.Need-add-used Inv-loop μ-loop
-add-used c = sum-fits (c .before .before .before .before .before .before .before .before .before .before .before .loop .inv) (c .before .before .before .before .before .before .before .before .before .before .loop-test .taken) (c .before .before .before .before .before .before .before .before .if1 .left) (c .before .before .before .before .before .before .before .if3 .left) (c .before .before .before .before .before .before .bounds-ok .ensures) (not-false _ (c .before .before .before .before .before .if4 .left)) (c .before .if5 .left)
+  low : group < 16
+  low =
+      let s = turn .before .before in
+      numbers-of (s .args .m) (s .args .meter) (getD (s .args .t1) (turn .before .loop .i) noThread) (sym (c .before .before .bounds-ok .ensures) ∙ not-false _ (c .before .if5 .left)) .low
 
-mul-used-2 : tie.Need-mul-used-2 Inv-loop μ-loop
-mul-used-2 c = scaled-fits ((getD (c .before .before .before .before .before .before .before .before .before .before .before .before .args .t1) (c .before .before .before .before .before .before .before .before .before .before .before .loop .i) noThread) .group) 16 4 (low (c .before .before .before .before)) (lit< tt)
+mul-opened : tie.Need-mul-opened Inv-loop μ-loop
+mul-opened c = scaled-fits (group c) 16 4 (low c) (lit< tt)
 
-array-write-used : tie.Need-array-write-used Inv-loop μ-loop
-array-write-used c = low (c .before .before .before .before)
+element-copy-out-opened : tie.Need-element-copy-out-opened Inv-loop μ-loop
+element-copy-out-opened c = low c
 
-add-i-2 : tie.Need-add-i-2 Inv-loop μ-loop
-add-i-2 c = next-fits (c .before .before .before .before .before .before .before .before .before .before .before .loop .i) (c .before .before .before .before .before .before .before .before .before .before .loop-test .taken)
-
-loop-less-2 : tie.Need-loop-less-2 Inv-loop μ-loop
-loop-less-2 c = falls 64 (c .before .before .before .before .before .before .before .before .before .before .before .loop .i) (c .before .before .before .before .before .before .before .before .before .before .loop-test .taken)
-
-loop-again-2 : tie.Need-loop-again-2 Inv-loop μ-loop
-loop-again-2 c = inv-add (c .before .before .before .before .before .before .before .before .before .before .before .loop .inv) (c .before .before .before .before .before .before .before .before .before .before .loop-test .taken) (c .before .before .before .before .before .before .before .before .if1 .left) (c .before .before .before .before .before .before .before .if3 .left) (c .before .before .before .before .before .before .bounds-ok .ensures) (not-false _ (c .before .before .before .before .before .if4 .left)) (c .before .if5 .left)
+failed-requires-5 : tie.Need-failed-requires-5 Inv-loop μ-loop
+failed-requires-5 c κs = tt
 
 returns-5 : tie.Need-returns-5 Inv-loop μ-loop
-returns-5 c = inv-idle (c .before .before .loop .inv) (c .before .loop-test .left) (c .if6 .taken)
+returns-5 c =
+    let k = c .before .before in
+    let f = k .before .before .before .before in
+    let t = turn k in
+    inv-home (t .before .loop .inv) (t .loop-test .taken) (f .if3 .left) (c .before .if6 .taken) (c .failed5 .ensures)
+
+mul-used : tie.Need-mul-used Inv-loop μ-loop
+mul-used c = scaled-fits (group (c .before)) 16 4 (low (c .before)) (lit< tt)
+
+array-read-used : tie.Need-array-read-used Inv-loop μ-loop
+array-read-used c = low (c .before)
+
+cast-used : tie.Need-cast-used Inv-loop μ-loop
+cast-used c = fits-widen tt (c .struct-known2 .given .1 .1 .1 .1 .1 .0)
+
+add-used : tie.Need-add-used Inv-loop μ-loop
+add-used c =
+    let k = c .before .before in
+    let b = k .before .before in
+    let v = b .before in
+    let f = v .before in
+    let t = turn k in
+    sum-fits (t .before .loop .inv) (t .loop-test .taken) (f .if3 .left) (not-false _ (f .before .if1 .left)) (v .if4 .left) (b .bounds-ok .ensures) (not-false _ (k .before .if5 .left)) (c .before .if6 .left)
+
+mul-used-2 : tie.Need-mul-used-2 Inv-loop μ-loop
+mul-used-2 c = scaled-fits (group (c .before .before)) 16 4 (low (c .before .before)) (lit< tt)
+
+array-write-used : tie.Need-array-write-used Inv-loop μ-loop
+array-write-used c = low (c .before .before)
+
+add-i-2 : tie.Need-add-i-2 Inv-loop μ-loop
+add-i-2 c = let t = turn (c .before .before) in next-fits (t .before .loop .i) (t .loop-test .taken)
+
+loop-less-2 : tie.Need-loop-less-2 Inv-loop μ-loop
+loop-less-2 c = let t = turn (c .before .before) in falls 64 (t .before .loop .i) (t .loop-test .taken)
+
+loop-again-2 : tie.Need-loop-again-2 Inv-loop μ-loop
+loop-again-2 c =
+    let k = c .before .before in
+    let b = k .before .before in
+    let v = b .before in
+    let f = v .before in
+    let t = turn k in
+    inv-add (t .before .loop .inv) (t .loop-test .taken) (f .if3 .left) (not-false _ (f .before .if1 .left)) (v .if4 .left) (b .bounds-ok .ensures) (not-false _ (k .before .if5 .left)) (c .before .if6 .left)
+
+returns-6 : tie.Need-returns-6 Inv-loop μ-loop
+returns-6 c = inv-idle (c .before .before .loop .inv) (c .before .loop-test .left) (c .if7 .taken)
 
 -- the running thread's number
-running : (c : tie.Else6 Inv-loop μ-loop) → c .before .before .before .args .running < 64
-running c = strict (c .before .before .before .pre .1) (c .if6 .left)
+running : (c : tie.Else7 Inv-loop μ-loop) → c .before .before .before .args .running < 64
+running c = strict (c .before .before .before .pre .1) (c .if7 .left)
 
 mul-x : tie.Need-mul-x Inv-loop μ-loop
 mul-x c = scaled-fits (c .before .before .before .args .running) 64 40 (running c) (lit< tt)
@@ -126,8 +164,8 @@ mul-x c = scaled-fits (c .before .before .before .args .running) 64 40 (running 
 array-copy-out-x : tie.Need-array-copy-out-x Inv-loop μ-loop
 array-copy-out-x c = running c
 
-returns-6 : tie.Need-returns-6 Inv-loop μ-loop
-returns-6 c = inv-run (c .before .before .before .before .loop .inv) (c .before .before .before .loop-test .left) (c .before .before .if6 .left)
+returns-7 : tie.Need-returns-7 Inv-loop μ-loop
+returns-7 c = inv-run (c .before .before .before .before .loop .inv) (c .before .before .before .loop-test .left) (c .before .before .if7 .left)
 
 pub threads-pass-spec : {M : Type 1} → statement M
 threads-pass-spec =
@@ -138,23 +176,24 @@ threads-pass-spec =
     loop-holds
     mul-t
     array-copy-out-t
-    array-read-if2
+    array-read-if1
     failed-requires
     returns
     add-i
     loop-less
     loop-again
-    array-read-if3
     failed-requires-2
     returns-2
-    bounds-ok-requires
     failed-requires-3
     returns-3
-    cast-g
-    mul-home
-    array-copy-out-home
+    bounds-ok-requires
     failed-requires-4
     returns-4
+    cast-g
+    mul-opened
+    element-copy-out-opened
+    failed-requires-5
+    returns-5
     mul-used
     array-read-used
     cast-used
@@ -164,7 +203,7 @@ threads-pass-spec =
     add-i-2
     loop-less-2
     loop-again-2
-    returns-5
+    returns-6
     mul-x
     array-copy-out-x
-    returns-6)
+    returns-7)
