@@ -38,6 +38,21 @@ fn a_million_calls() {
     );
 }
 
+/// No exported function is left out.
+#[test]
+fn every_function() {
+    let declared: Vec<&str> = include_str!("../src/raw.rs")
+        .lines()
+        .filter_map(|line| line.split_once("fn mtr_")?.1.split_once('('))
+        .map(|(name, _)| name)
+        .collect();
+    let called: Vec<&str> = FUNCTIONS.iter().map(|(name, _)| &name[4..]).collect();
+    for name in &declared {
+        assert!(called.contains(name), "mtr_{name} is not called");
+    }
+    assert_eq!(declared.len(), called.len());
+}
+
 /// The variable that makes this program the child of the test below.
 const TOUCH: &str = "HOSTILE_TOUCH";
 

@@ -10,17 +10,27 @@ fn root() -> PathBuf {
     Path::new(env!("CARGO_MANIFEST_DIR")).join("../..")
 }
 
-fn recipes() -> Vec<(PathBuf, Vec<u8>)> {
+/// A line of the corpus: a recipe's bytes as hexadecimal digits.
+fn unpacked(line: &str) -> Vec<u8> {
+    assert!(line.is_ascii() && line.len() % 2 == 0, "{line}");
+    (0..line.len())
+        .step_by(2)
+        .map(|i| u8::from_str_radix(&line[i..i + 2], 16).unwrap())
+        .collect()
+}
+
+/// The seeds and the lines of the corpus, each with its place.
+fn recipes() -> Vec<(String, Vec<u8>)> {
+    let own = Path::new(env!("CARGO_MANIFEST_DIR"));
     let mut recipes = Vec::new();
-    for folder in ["seeds", "corpus"] {
-        let folder = Path::new(env!("CARGO_MANIFEST_DIR")).join(folder);
-        for entry in std::fs::read_dir(folder).unwrap() {
-            let path = entry.unwrap().path();
-            let bytes = std::fs::read(&path).unwrap();
-            recipes.push((path, bytes));
-        }
+    for entry in std::fs::read_dir(own.join("seeds")).unwrap() {
+        let path = entry.unwrap().path();
+        recipes.push((path.display().to_string(), std::fs::read(&path).unwrap()));
     }
-    recipes.sort();
+    let corpus = std::fs::read_to_string(own.join("corpus.hex")).unwrap();
+    for (i, line) in corpus.lines().enumerate() {
+        recipes.push((format!("corpus.hex:{}", i + 1), unpacked(line)));
+    }
     recipes
 }
 
@@ -57,10 +67,10 @@ fn the_corpus() {
     let recipes = recipes();
     let mut answers = [0u32; 21];
     let mut refused = [0u32; 21];
-    for (path, recipe) in &recipes {
+    for (place, recipe) in &recipes {
         let case = case(recipe);
         let wanted = replay(&case.journal);
-        assert!(printed(&case) == wanted.as_bytes(), "{}", path.display());
+        assert!(printed(&case) == wanted.as_bytes(), "{place}");
         for line in wanted.lines() {
             let words: Vec<&str> = line.split(' ').collect();
             match words[..] {
