@@ -12,7 +12,7 @@ fn root() -> PathBuf {
 
 /// A line of the corpus: a recipe's bytes as hexadecimal digits.
 fn unpacked(line: &str) -> Vec<u8> {
-    assert!(line.is_ascii() && line.len() % 2 == 0, "{line}");
+    assert!(line.is_ascii() && line.len().is_multiple_of(2), "{line}");
     (0..line.len())
         .step_by(2)
         .map(|i| u8::from_str_radix(&line[i..i + 2], 16).unwrap())
