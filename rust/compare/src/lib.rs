@@ -6,68 +6,53 @@
 
 #![forbid(unsafe_code)]
 
+pub mod program;
+
 use binding::numbers;
 use model::accounts::Entry;
 use model::blocks::Record;
 use model::random::Call;
-use model::rule::{Group, Reply, Scheduler, Settings, Thread};
+use model::rule::{self, Group, Reply, Scheduler, Settings, Thread};
+
+/// The state made of the types of a module, each field from that of its name.
+macro_rules! state {
+    ($side:ident, $s:expr) => {
+        $side::Scheduler {
+            threads: $s.threads.map(|t| $side::Thread {
+                admission: t.admission,
+                anchor: t.anchor,
+                ticks: t.ticks,
+                since: t.since,
+                allotment: t.allotment,
+                reservation: t.reservation,
+                group: t.group,
+                status: t.status,
+            }),
+            order: $s.order,
+            groups: $s.groups.map(|g| $side::Group {
+                ceiling: g.ceiling,
+                parent: g.parent,
+                opened: g.opened,
+            }),
+            meter: $s.meter,
+            settings: $side::Settings {
+                thousandth: $s.settings.thousandth,
+                interval: $s.settings.interval,
+            },
+            count: $s.count,
+            running: $s.running,
+        }
+    };
+}
 
 /// The state as the library takes it.
 pub fn to_library(s: &Scheduler) -> numbers::Scheduler {
-    numbers::Scheduler {
-        threads: s.threads.map(|t| numbers::Thread {
-            admission: t.admission,
-            anchor: t.anchor,
-            ticks: t.ticks,
-            since: t.since,
-            allotment: t.allotment,
-            reservation: t.reservation,
-            group: t.group,
-            status: t.status,
-        }),
-        order: s.order,
-        groups: s.groups.map(|g| numbers::Group {
-            ceiling: g.ceiling,
-            parent: g.parent,
-            opened: g.opened,
-        }),
-        meter: s.meter,
-        settings: numbers::Settings {
-            thousandth: s.settings.thousandth,
-            interval: s.settings.interval,
-        },
-        count: s.count,
-        running: s.running,
-    }
+    state!(numbers, s)
 }
 
 /// A state of the library's as the model holds it.
 pub fn to_model(s: &numbers::Scheduler) -> Scheduler {
-    Scheduler {
-        threads: s.threads.map(|t| Thread {
-            admission: t.admission,
-            anchor: t.anchor,
-            ticks: t.ticks,
-            since: t.since,
-            allotment: t.allotment,
-            reservation: t.reservation,
-            group: t.group,
-            status: t.status,
-        }),
-        order: s.order,
-        groups: s.groups.map(|g| Group {
-            ceiling: g.ceiling,
-            parent: g.parent,
-            opened: g.opened,
-        }),
-        meter: s.meter,
-        settings: Settings {
-            thousandth: s.settings.thousandth,
-            interval: s.settings.interval,
-        },
-        count: s.count,
-        running: s.running,
-    }
+    state!(rule, s)
 }
 
 /// A record as the library takes it.

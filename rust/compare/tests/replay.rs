@@ -1,42 +1,8 @@
 //! The program `mtrrun` against the model's replay: the same bytes on standard output for the same bytes on standard input.
 
+use compare::program::{printed, root};
 use model::random::{journal, Rng};
 use model::replay::replay;
-use std::io::{Read, Write};
-use std::path::PathBuf;
-use std::process::{Command, Stdio};
-
-fn root() -> PathBuf {
-    PathBuf::from(env!("CARGO_MANIFEST_DIR")).join("../..")
-}
-
-/// What the program prints for an input that arrives in pieces of these lengths, again and again.
-fn printed(input: &[u8], pieces: &[usize]) -> Vec<u8> {
-    let program = root().join("target/bin/mtrrun");
-    let mut child = Command::new(&program)
-        .stdin(Stdio::piped())
-        .stdout(Stdio::piped())
-        .spawn()
-        .unwrap_or_else(|e| panic!("{}: {e}: run rt check mtrrun", program.display()));
-    let mut to = child.stdin.take().unwrap();
-    let mut out = Vec::new();
-    std::thread::scope(|scope| {
-        scope.spawn(move || {
-            let mut rest = input;
-            for &length in pieces.iter().cycle() {
-                if rest.is_empty() {
-                    break;
-                }
-                let (piece, more) = rest.split_at(length.min(rest.len()));
-                to.write_all(piece).unwrap();
-                rest = more;
-            }
-        });
-        child.stdout.take().unwrap().read_to_end(&mut out).unwrap();
-    });
-    assert!(child.wait().unwrap().success());
-    out
-}
 
 fn whole(input: &[u8]) -> Vec<u8> {
     printed(input, &[1 << 20])

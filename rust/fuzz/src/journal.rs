@@ -9,7 +9,7 @@ use binding::{numbers, raw};
 use compare::{both, sound, start, to_library, to_library_record, to_model_entry, to_model_record};
 use model::accounts::Entry;
 use model::blocks::{check, kind, read_block, write_block, Record, BLOCK, RECORDS};
-use model::random::Call;
+use model::random::recorded;
 use model::rule::{Reply, Scheduler};
 use std::fmt::Write;
 
@@ -204,36 +204,17 @@ fn read(page: &mut Guarded, area: &[u8], place: u32) -> Result<Vec<Record>, u32>
 
 /// Runs a record on both sides; without a state every record but a start answers 20.
 fn run(state: &mut Option<Scheduler>, r: &Record) -> Reply {
-    let (subject, group, amount) = (r.subject as u64, r.group as u64, r.amount as u64);
-    let call = match r.kind {
-        kind::START => {
-            return Reply::plain(match start(amount, r.ticks as u64) {
-                Ok(fresh) => {
-                    *state = Some(fresh);
-                    0
-                }
-                Err(refusal) => refusal,
-            });
-        }
-        kind::OPEN => Call::Open {
-            number: subject,
-            parent: group,
-            ceiling: amount,
-        },
-        kind::CLOSE => Call::Close { number: subject },
-        kind::ADMIT => Call::Admit {
-            number: subject,
-            group,
-            reservation: amount,
-        },
-        kind::REMOVE => Call::Remove { number: subject },
-        kind::WAKE => Call::Wake { number: subject },
-        kind::DISPATCH => Call::Dispatch,
-        kind::REPORT => Call::Report {
-            reason: r.reason as u64,
-            used: r.ticks as u64,
-        },
-        other => panic!("a record of kind {other} was read"),
+    if r.kind == kind::START {
+        return Reply::plain(match start(r.amount as u64, r.ticks as u64) {
+            Ok(fresh) => {
+                *state = Some(fresh);
+                0
+            }
+            Err(refusal) => refusal,
+        });
+    }
+    let Some(call) = recorded(r) else {
+        panic!("a record of kind {} was read", r.kind);
     };
     match state {
         Some(s) => both(s, call),

@@ -1,14 +1,10 @@
 //! What the fuzzer began with and what it has learnt, run again: the library's functions, `mtrrun` and the model
 //! agree on each case.
 
-use fuzz::journal::{case, replay, Case};
-use std::io::{Read, Write};
-use std::path::{Path, PathBuf};
-use std::process::{Command, Stdio};
-
-fn root() -> PathBuf {
-    Path::new(env!("CARGO_MANIFEST_DIR")).join("../..")
-}
+use compare::program::{printed, root};
+use fuzz::journal::{case, replay};
+use std::path::Path;
+use std::process::Command;
 
 /// A line of the corpus: a recipe's bytes as hexadecimal digits.
 fn unpacked(line: &str) -> Vec<u8> {
@@ -34,34 +30,6 @@ fn recipes() -> Vec<(String, Vec<u8>)> {
     recipes
 }
 
-/// What the program prints for a journal that arrives in the case's pieces.
-fn printed(case: &Case) -> Vec<u8> {
-    let program = root().join("target/bin/mtrrun");
-    let mut child = Command::new(&program)
-        .stdin(Stdio::piped())
-        .stdout(Stdio::piped())
-        .spawn()
-        .unwrap_or_else(|e| panic!("{}: {e}: run rt check mtrrun", program.display()));
-    let mut to = child.stdin.take().unwrap();
-    let mut out = Vec::new();
-    std::thread::scope(|scope| {
-        scope.spawn(move || {
-            let mut rest = &case.journal[..];
-            for &length in case.pieces.iter().cycle() {
-                if rest.is_empty() {
-                    break;
-                }
-                let (piece, more) = rest.split_at(length.min(rest.len()));
-                to.write_all(piece).unwrap();
-                rest = more;
-            }
-        });
-        child.stdout.take().unwrap().read_to_end(&mut out).unwrap();
-    });
-    assert!(child.wait().unwrap().success());
-    out
-}
-
 #[test]
 fn the_corpus() {
     let recipes = recipes();
@@ -70,7 +38,8 @@ fn the_corpus() {
     for (place, recipe) in &recipes {
         let case = case(recipe);
         let wanted = replay(&case.journal);
-        assert!(printed(&case) == wanted.as_bytes(), "{place}");
+        let found = printed(&case.journal, &case.pieces);
+        assert!(found == wanted.as_bytes(), "{place}");
         for line in wanted.lines() {
             let words: Vec<&str> = line.split(' ').collect();
             match words[..] {

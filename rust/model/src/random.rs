@@ -890,10 +890,11 @@ pub fn record(call: Call) -> Record {
     rec
 }
 
-/// Runs a record, a start too, on a state.
-fn follow(s: &mut Scheduler, rec: &Record) {
+/// The call of a record, or none if its kind is a start or that of no call.
+/// [`record`] makes the record of it again if the fields unused are 0.
+pub fn recorded(rec: &Record) -> Option<Call> {
     let (subject, group, amount) = (rec.subject as u64, rec.group as u64, rec.amount as u64);
-    let call = match rec.kind {
+    Some(match rec.kind {
         kind::OPEN => Call::Open {
             number: subject,
             parent: group,
@@ -912,14 +913,17 @@ fn follow(s: &mut Scheduler, rec: &Record) {
             reason: rec.reason as u64,
             used: rec.ticks as u64,
         },
-        _ => {
-            if let Ok(new) = Scheduler::start(amount, rec.ticks as u64) {
-                *s = new;
-            }
-            return;
-        }
-    };
-    apply(s, call);
+        _ => return None,
+    })
+}
+
+/// Runs a record, a start too, on a state.
+fn follow(s: &mut Scheduler, rec: &Record) {
+    if let Some(call) = recorded(rec) {
+        apply(s, call);
+    } else if let Ok(new) = Scheduler::start(rec.amount as u64, rec.ticks as u64) {
+        *s = new;
+    }
 }
 
 // ---- journals ----
