@@ -292,9 +292,16 @@ module _ {threads : List Thread} {groups : List Group} {seen : List Bool} {m met
       threads-end (given s threads groups m meter running) used (subst (λ (j : ℕ). ThreadsTo (given s threads groups m meter running) j used) z (k .to s q))
       (λ g l. omega (arith, k .sized .small g l)) ok (e s)
 
-  pub inv-idle : running ≡ 64 → Answers threads groups seen m meter running true used
-  inv-idle e = ended true (λ s. sym (rw (eq-eqb running 64 e)))
+  -- a result that is equal
+  module _ {ok : Bool} {after : List ℕ} where
+    equal : (b : Bool) → (ok ≡ b) × (after ≡ used) → Answers threads groups seen m meter running b used → Answers threads groups seen m meter running ok after
+    equal b e a =
+        subst (λ (o : Bool). Answers threads groups seen m meter running o after) (sym (e .0))
+        (subst (λ (u : List ℕ). Answers threads groups seen m meter running b u) (sym (e .1)) a)
 
-  pub inv-run : (running ≡ 64 → ⊥) → Answers threads groups seen m meter running (eqb ((getD threads running noThread) .status) 1) used
-  unfolding runnableAt
-  inv-run n = ended (eqb ((getD threads running noThread) .status) 1) (λ s. sym (rw (ne-eqb running 64 n)))
+    pub inv-idle : running ≡ 64 → (ok ≡ true) × (after ≡ used) → Answers threads groups seen m meter running ok after
+    inv-idle e q = equal true q (ended true (λ s. sym (rw (eq-eqb running 64 e))))
+
+    pub inv-run : (running ≡ 64 → ⊥) → (ok ≡ eqb ((getD threads running noThread) .status) 1) × (after ≡ used) → Answers threads groups seen m meter running ok after
+    unfolding runnableAt
+    inv-run n q = equal (eqb ((getD threads running noThread) .status) 1) q (ended (eqb ((getD threads running noThread) .status) 1) (λ s. sym (rw (ne-eqb running 64 n))))

@@ -134,6 +134,13 @@ fn failed() -> Pass
     }
 }
 
+// Each thread is in order; `ok` says whether the running one is runnable.
+fn passed(used: [u32; 16], ok: bool) -> Pass
+    ensures { λ r. ⌜ (r .ok ≡ ok) × (r .used ≡ used) ⌝ }
+{
+    Pass { ok: ok, used: used }
+}
+
 // A free number does not stand in the list; an admitted thread does.
 fn threads_pass(
     threads: [Thread; 64],
@@ -176,17 +183,11 @@ fn threads_pass(
         i += 1;
     }
     if running == Scheduler::THREADS {
-        return Pass {
-            ok: true,
-            used: used,
-        };
+        return passed(used, true);
     }
     let r = running as usize;
     let x = threads[r];
-    Pass {
-        ok: x.status == 1,
-        used: used,
-    }
+    passed(used, x.status == 1)
 }
 
 // Parents have lower numbers: counted down, a group's children are added to it before it is tested.

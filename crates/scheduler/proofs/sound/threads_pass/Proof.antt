@@ -151,8 +151,11 @@ loop-again-2 c =
     let t = turn k in
     inv-add (t .before .loop .inv) (t .loop-test .taken) (f .if3 .left) (not-false _ (f .before .if1 .left)) (v .if4 .left) (b .bounds-ok .ensures) (not-false _ (k .before .if5 .left)) (c .before .if6 .left)
 
+passed-requires : tie.Need-passed-requires Inv-loop μ-loop
+passed-requires c κs = tt
+
 returns-6 : tie.Need-returns-6 Inv-loop μ-loop
-returns-6 c = inv-idle (c .before .before .loop .inv) (c .before .loop-test .left) (c .if7 .taken)
+returns-6 c = inv-idle (c .before .before .before .loop .inv) (c .before .before .loop-test .left) (c .before .if7 .taken) (c .passed .ensures)
 
 -- the running thread's number
 running : (c : tie.Else7 Inv-loop μ-loop) → c .before .before .before .args .running < 64
@@ -164,8 +167,11 @@ mul-x c = scaled-fits (c .before .before .before .args .running) 64 40 (running 
 array-copy-out-x : tie.Need-array-copy-out-x Inv-loop μ-loop
 array-copy-out-x c = running c
 
+passed-requires-2 : tie.Need-passed-requires-2 Inv-loop μ-loop
+passed-requires-2 c κs = tt
+
 returns-7 : tie.Need-returns-7 Inv-loop μ-loop
-returns-7 c = inv-run (c .before .before .before .before .loop .inv) (c .before .before .before .loop-test .left) (c .before .before .if7 .left)
+returns-7 c = inv-run (c .before .before .before .before .before .loop .inv) (c .before .before .before .before .loop-test .left) (c .before .before .before .if7 .left) (c .passed2 .ensures)
 
 pub threads-pass-spec : {M : Type 1} → statement M
 threads-pass-spec =
@@ -203,7 +209,9 @@ threads-pass-spec =
     add-i-2
     loop-less-2
     loop-again-2
+    passed-requires
     returns-6
     mul-x
     array-copy-out-x
+    passed-requires-2
     returns-7)
