@@ -254,7 +254,7 @@ fn blocks() {
             let area = black_box(&mut area);
             // SAFETY: pointer and length are those of the area.
             unsafe {
-                raw::mtr_write_block(
+                raw::mtr_by_value_write_block(
                     area.as_mut_ptr(),
                     area.len(),
                     7,

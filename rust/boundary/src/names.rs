@@ -35,10 +35,11 @@ pub struct Family {
 
 /// The modules of crates/abi in the order in which they are printed, and what
 /// each is about.
-pub const SECTIONS: [(&str, &str); 3] = [
+pub const SECTIONS: [(&str, &str); 4] = [
     ("calls", "The scheduler's calls"),
     ("roster", "Accounts"),
     ("blocks", "Event blocks"),
+    ("version", "Version"),
 ];
 
 /// The prefix of an answer other than 0.

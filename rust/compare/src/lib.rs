@@ -173,7 +173,7 @@ pub fn start(m: u64, p: u64) -> Result<Scheduler, u32> {
 pub fn sound(s: &Scheduler) -> bool {
     let wanted = s.sound();
     assert_eq!(
-        binding::raw::mtr_sound(to_library(s)),
+        binding::raw::mtr_by_value_sound(to_library(s)),
         wanted as u32,
         "{s:?}"
     );

@@ -480,7 +480,7 @@ fn records_past_the_count() {
         let number = r.bits() as u32;
         // SAFETY: pointer and length are those of the area.
         let answer = unsafe {
-            binding::raw::mtr_write_block(area.as_mut_ptr(), BLOCK, number, records, count)
+            binding::raw::mtr_by_value_write_block(area.as_mut_ptr(), BLOCK, number, records, count)
         };
         let mut wanted = [7; BLOCK];
         if count > RECORDS {
