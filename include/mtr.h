@@ -2,7 +2,7 @@
  * The move-to-rear list scheduler (MTR-LS): its boundary for C and C++.
  *
  * Written from the Rattle sources; do not edit. To renew it:
- *     cargo run --release --manifest-path rust/Cargo.toml -p boundary
+ *     cargo run --release -p boundary
  *
  * The scheduler's state is a struct that the host holds. A call takes it by
  * value and hands it back with the answer, after a refusal unchanged:
