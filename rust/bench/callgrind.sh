@@ -13,7 +13,7 @@ printf '%-12s%8s%10s  %-42s%8s  %-42s%s\n' call threads cheapest '' dearest '' r
 for call in $("$bench" calls); do
     rm -f "$work"/*
     # Counts only within the exported function, and parts them where a case begins and where it ends.
-    if ! valgrind --tool=callgrind --callgrind-out-file="$work/out" --toggle-collect="mtr_$call" \
+    if ! valgrind --tool=callgrind --callgrind-out-file="$work/out" --toggle-collect="mtr_by_value_$call" \
         --dump-before=bench_case "$bench" one "$call" "$calls" >"$work/cases" 2>"$work/log"; then
         cat "$work/log" >&2
         exit 1
