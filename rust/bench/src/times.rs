@@ -7,12 +7,12 @@
 use std::hint::black_box;
 use std::time::{Duration, Instant};
 
-use binding::{numbers, raw};
-use compare::{to_library, to_library_record};
+use check::compare::{to_library, to_library_record};
 use model::accounts::Entry;
 use model::blocks::{decode, write_block, Record, BLOCK as BLOCK_BYTES, RECORDS};
 use model::by_value;
 use model::rule::{Scheduler, BLOCK, BLOCKED, TICK};
+use mtr::{numbers, raw};
 
 use crate::states::{records, reservation, sloped, threads, worn};
 
@@ -242,7 +242,7 @@ fn roster(name: &str, s: Scheduler, bar: Option<f64>) {
 }
 
 /// A block of 31 records. The library takes them as an array by value; the
-/// binding's function makes it from a slice.
+/// crate's function makes it from a slice.
 fn blocks() {
     let records = records();
     let list = records.map(|record| to_library_record(&record));
@@ -254,7 +254,7 @@ fn blocks() {
             let area = black_box(&mut area);
             // SAFETY: pointer and length are those of the area.
             unsafe {
-                raw::mtr_write_block(
+                raw::mtr_by_value_write_block(
                     area.as_mut_ptr(),
                     area.len(),
                     7,
