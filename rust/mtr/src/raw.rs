@@ -578,8 +578,7 @@ unsafe extern "C" {
     ///
     /// `table` is valid for reads and writes of `table_len` elements, is
     /// aligned and not null, and nothing else uses them during the call.
-    pub unsafe fn mtr_by_value_roster(state: Scheduler, table: *mut Entry, table_len: usize)
-        -> u32;
+    pub unsafe fn mtr_by_value_roster(state: Scheduler, table: *mut Entry, table_len: usize) -> u32;
 
     /// Writes the block of this number with the first `count` records to a lent
     /// area.
