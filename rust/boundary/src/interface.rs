@@ -517,9 +517,11 @@ pub extern \"C\" fn mtr_write(area: &mut [u8], list: Records) -> u32 {}
         let calls = calls.to_string();
         resolve(&move |path: &str| {
             let text = match path {
-                "crates/abi/src/lib.rt" => "pub mod blocks;\npub mod calls;\npub mod roster;",
+                "crates/abi/src/lib.rt" => {
+                    "pub mod blocks;\npub mod calls;\npub mod roster;\npub mod version;"
+                }
                 "crates/abi/src/calls.rt" => &calls,
-                "crates/abi/src/roster.rt" => "",
+                "crates/abi/src/roster.rt" | "crates/abi/src/version.rt" => "",
                 "crates/abi/src/blocks.rt" => BLOCKS,
                 "crates/scheduler/src/lib.rt" => SCHEDULER,
                 "crates/scheduler/src/run.rt" => RUN,
@@ -576,7 +578,7 @@ pub extern \"C\" fn mtr_write(area: &mut [u8], list: Records) -> u32 {}
     #[test]
     fn slices() {
         let found = with("").unwrap();
-        let [_, _, blocks] = &found.sections[..] else {
+        let [_, _, blocks, _] = &found.sections[..] else {
             panic!("{:?}", found.sections);
         };
         let [write] = &blocks.functions[..] else {
@@ -686,7 +688,7 @@ pub extern \"C\" fn mtr_write(area: &mut [u8], list: Records) -> u32 {}
         let found = resolve(&|_: &str| Ok("pub mod calls;".to_string()));
         assert_eq!(
             found.unwrap_err().to_string(),
-            "crates/abi/src/lib.rt:1: the modules are [\"calls\"], and the sections [\"blocks\", \"calls\", \"roster\"]"
+            "crates/abi/src/lib.rt:1: the modules are [\"calls\"], and the sections [\"blocks\", \"calls\", \"roster\", \"version\"]"
         );
     }
 
