@@ -32,10 +32,9 @@ for call in $("$bench" calls); do
             if (!(threads in high) || count > high[threads]) { high[threads] = count; dear[threads] = name }
         }
         END {
-            bar = call == "dispatch" || call == "report" ? " (bar 3)" : ""
             for (i = 1; i <= n; i++) {
                 t = order[i]
-                printf "%-12s%8s%10d  %-42s%8d  %-42s%.2f%s\n", call, t, low[t], cheap[t], high[t], dear[t], high[t] / low[t], bar
+                printf "%-12s%8s%10d  %-42s%8d  %-42s%.2f\n", call, t, low[t], cheap[t], high[t], dear[t], high[t] / low[t]
             }
         }'
 done

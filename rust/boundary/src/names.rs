@@ -46,7 +46,7 @@ pub const SECTIONS: [(&str, &str); 4] = [
 pub const REFUSED: &str = "REFUSED_";
 
 const SCHEDULER: &str = "crates/scheduler/src/lib.rt";
-const RUN: &str = "crates/scheduler/src/run.rt";
+const RUN: &str = "crates/scheduler/src/threads.rt";
 const PRIORITY: &str = "crates/scheduler/src/priority.rt";
 const REPLAY: &str = "crates/replay/src/lib.rt";
 

@@ -63,7 +63,7 @@ fn with(calls: &str) -> Result<Interface, Error> {
             "crates/abi/src/roster.rt" | "crates/abi/src/version.rt" => "",
             "crates/abi/src/blocks.rt" => BLOCKS,
             "crates/scheduler/src/lib.rt" => SCHEDULER,
-            "crates/scheduler/src/run.rt" => RUN,
+            "crates/scheduler/src/threads.rt" => RUN,
             "crates/scheduler/src/priority.rt" => {
                 "pub const LOWEST: u64 = 1; pub const HIGHEST: u64 = 10;"
             }
