@@ -25,7 +25,7 @@ use Rattle.scheduler.specs.Rule.{Reply, isDispatch, accept, step}
 use Rattle.scheduler.specs.Answers.{lineOf, replyOf}
 use Rattle.scheduler.proofs.Facts.{Facts, facts, length-listed}
 use Rattle.scheduler.proofs.Passed.{passes, dispatch-passed}
-use Rattle.scheduler.proofs.ListRule.{step-state}
+use Rattle.scheduler.proofs.Steps.{step-state}
 use Rattle.scheduler.proofs.threads.Replies.{answered, refused}
 
 -- an entry of the list is a thread's number

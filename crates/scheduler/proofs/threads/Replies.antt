@@ -29,7 +29,7 @@ use Rattle.scheduler.specs.Rule.{isDispatch, accept, refuse, step}
 use Rattle.scheduler.specs.Answers.{lineOf, replyOf}
 use Rattle.scheduler.proofs.Facts.{Facts, facts, length-listed}
 use Rattle.scheduler.proofs.Passed.{passes, remove-passed, wake-passed}
-use Rattle.scheduler.proofs.ListRule.{step-state, refused-state}
+use Rattle.scheduler.proofs.Steps.{step-state, refused-state}
 
 abbrev pub answered : Answer → Scheduler → Answered
 answered a s = record { answer = a; state = s }
