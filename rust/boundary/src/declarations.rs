@@ -173,8 +173,13 @@ fn function(f: &Function) -> String {
     };
     let head = format!("    pub {safe} fn {}", f.name);
     let line = format!("{head}({}){result};", parameters.join(", "));
-    if line.len() <= CODE {
+    if line.len() < CODE {
         return out + &line + "\n";
+    }
+    // So rustfmt has a line that ends in the last column.
+    if line.len() == CODE {
+        let line = format!("{head}({})", parameters.join(", "));
+        return out + &line + &format!("\n       {result};\n");
     }
     out += &format!("{head}(\n");
     for parameter in parameters {

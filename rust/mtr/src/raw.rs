@@ -29,6 +29,17 @@ macro_rules! layout {
     };
 }
 
+// The version; mtr_version answers that of the library.
+
+/// Major.
+pub const VERSION_MAJOR: u32 = 1;
+/// Minor.
+pub const VERSION_MINOR: u32 = 1;
+/// Patch.
+pub const VERSION_PATCH: u32 = 0;
+/// One number: 10000 times the major, 100 times the minor, and the patch.
+pub const VERSION: u32 = 10100;
+
 // Numbers of threads and groups, and the parts of a block.
 
 /// Most threads; their numbers begin at 0.
@@ -134,11 +145,11 @@ pub const STATUS_BLOCKED: u8 = 2;
 // State of a thread in the roster.
 
 /// Runnable.
-pub const STATE_RUNNABLE: u32 = 0;
+pub const ROSTER_RUNNABLE: u32 = 0;
 /// Blocked.
-pub const STATE_BLOCKED: u32 = 1;
+pub const ROSTER_BLOCKED: u32 = 1;
 /// Running.
-pub const STATE_RUNNING: u32 = 2;
+pub const ROSTER_RUNNING: u32 = 2;
 
 // Whether a group's entry in the state is open.
 
@@ -578,7 +589,8 @@ unsafe extern "C" {
     ///
     /// `table` is valid for reads and writes of `table_len` elements, is
     /// aligned and not null, and nothing else uses them during the call.
-    pub unsafe fn mtr_by_value_roster(state: Scheduler, table: *mut Entry, table_len: usize) -> u32;
+    pub unsafe fn mtr_by_value_roster(state: Scheduler, table: *mut Entry, table_len: usize)
+        -> u32;
 
     /// Writes the block of this number with the first `count` records to a lent
     /// area.

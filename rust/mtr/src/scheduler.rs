@@ -96,8 +96,8 @@ impl Entry {
         Entry {
             thread: entry.number as u8,
             state: match entry.state {
-                raw::STATE_BLOCKED => ThreadState::Blocked,
-                raw::STATE_RUNNING => ThreadState::Running,
+                raw::ROSTER_BLOCKED => ThreadState::Blocked,
+                raw::ROSTER_RUNNING => ThreadState::Running,
                 _ => ThreadState::Runnable,
             },
             allotment: entry.allotment,
