@@ -43,22 +43,22 @@
  * other bound than these and the machine's.
  *
  *     call                 stack    instructions
- *     mtr_start                1               1
- *     mtr_open                 1               1
- *     mtr_close                1               1
- *     mtr_admit                1               1
- *     mtr_remove               1               1
- *     mtr_wake                 1               1
- *     mtr_dispatch             1               1
- *     mtr_report               1               1
- *     mtr_sound                1               1
- *     mtr_priority             1               1
- *     mtr_subtree              1               1
- *     mtr_lag                  1               1
- *     mtr_share                1               1
- *     mtr_roster               1               1
- *     mtr_write_block          1               1
- *     mtr_read_block           1               1
+ *     mtr_start             2800            2702
+ *     mtr_open             11376            4756
+ *     mtr_close            11360            4725
+ *     mtr_admit            11312            4749
+ *     mtr_remove           11280            4774
+ *     mtr_wake             11216            4562
+ *     mtr_dispatch         11216            5298
+ *     mtr_report           11328            4882
+ *     mtr_sound             5752            3945
+ *     mtr_priority            16               8
+ *     mtr_subtree           8252            6656
+ *     mtr_lag              11224            4554
+ *     mtr_share            11216            4553
+ *     mtr_roster           14600           30889
+ *     mtr_write_block        840            3653
+ *     mtr_read_block        1604            4634
  */
 #ifndef MTR_H
 #define MTR_H

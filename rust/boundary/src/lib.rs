@@ -28,6 +28,9 @@ use std::path::{Path, PathBuf};
 /// The command that renews the files, from the repository's root.
 pub const COMMAND: &str = "cargo run --release -p boundary";
 
+/// The enum of answers in C.
+const ANSWER: &str = "mtr_answer";
+
 /// What is refused, and where.
 #[derive(Clone, Debug, PartialEq, Eq)]
 pub struct Error {
@@ -84,4 +87,11 @@ fn wrapped(text: &str, width: usize) -> Vec<String> {
         }
     }
     lines
+}
+
+/// A comment as part of a sentence.
+pub fn words(doc: &str) -> String {
+    let mut letters = doc.trim_end_matches('.').chars();
+    let first = letters.next().map(|c| c.to_ascii_lowercase());
+    first.into_iter().chain(letters).collect()
 }

@@ -177,6 +177,40 @@ pub const KIND_REPORT: u8 = 7;
 /// Start: amount is m, ticks is P.
 pub const KIND_START: u8 = 8;
 
+/// What an answer says, in words.
+pub const fn answer_text(answer: u32) -> &'static str {
+    match answer {
+        ACCEPTED => "the call is accepted",
+        REFUSED_SETTINGS => "m or P is outside its range",
+        REFUSED_NO_GROUP => {
+            "the group or parent is above 15 or not open, or group 0 is to be closed"
+        }
+        REFUSED_GROUP_NUMBER => {
+            "the group's number is above 15, already open or not above the parent's"
+        }
+        REFUSED_AMOUNT => "the ceiling, reservation or priority is outside its range",
+        REFUSED_NO_ROOM => "the ceiling or reservation exceeds what the group has free",
+        REFUSED_GROUP_IN_USE => "the group has a thread or a child",
+        REFUSED_NO_THREAD => "the thread's number is above 63 or not admitted",
+        REFUSED_ALREADY_ADMITTED => "the thread is already admitted",
+        REFUSED_THREAD_RUNNING => "the thread to remove is running",
+        REFUSED_NOT_BLOCKED => "the thread to wake is not blocked",
+        REFUSED_NOTHING_RUNNING => "nothing is running",
+        REFUSED_BUSY => "a thread is running",
+        REFUSED_OVER_SLICE => "more is used than the slice",
+        REFUSED_REASON => "the reason is above 3",
+        REFUSED_METER_FULL => "the meter is at its limit",
+        REFUSED_UNSOUND => "the state is not sound",
+        REFUSED_LENGTH => "the area is not 512 bytes, or the table is too short",
+        REFUSED_CHECK => "the check of the block is wrong",
+        REFUSED_FORM => "the block or a record has not the form that is asked for",
+        REFUSED_NOT_STARTED => {
+            "in what mtrrun prints alone: no start is accepted since a refused block"
+        }
+        _ => "no listed answer",
+    }
+}
+
 /// A thread. status: 0 free, 1 runnable, 2 blocked. admission and anchor are
 /// the meter at admission and at the anchor; ticks and since are the thread's
 /// ticks since each.

@@ -1,9 +1,10 @@
 //! The functions that a host calls: each takes a pointer to the state, makes
 //! the exported call by value and stores what it hands back.
 
-use super::{boxed, declared, described, folded, listed, slice, ANSWER};
+use super::{boxed, declared, described, folded, listed, slice};
 use crate::interface::{c_name, Field, Form, Function, Interface, Pass, Struct};
 use crate::names::TYPED;
+use crate::ANSWER;
 
 /// What a dispatch decides. It is no struct of the library's.
 pub const RUN: &str = "\

@@ -7,7 +7,7 @@ use crate::comment::refusal;
 use crate::costs::Cost;
 use crate::interface::{c_name, Family, Form, Function, Interface, Pass, Struct};
 use crate::names::BY_VALUE;
-use crate::wrapped;
+use crate::{words, wrapped, ANSWER};
 
 const WIDTH: usize = 80;
 const PREFIX: &str = "MTR_";
@@ -44,9 +44,6 @@ pub fn print(interface: &Interface, costs: &[Cost]) -> String {
     }
     out + head::TAIL
 }
-
-/// The enum of answers in C.
-const ANSWER: &str = "mtr_answer";
 
 const EXPORTS: &str =
     "What the library exports, for the functions below alone: the state goes by value, and one that is not stored back is lost.";
@@ -85,13 +82,6 @@ fn answer_text(family: &Family) -> String {
         out += &format!("        return {:?};\n", words(doc));
     }
     out + "    }\n    return \"no listed answer\";\n}\n\n"
-}
-
-/// A comment as part of a sentence.
-pub fn words(doc: &str) -> String {
-    let mut letters = doc.trim_end_matches('.').chars();
-    let first = letters.next().map(|c| c.to_ascii_lowercase());
-    first.into_iter().chain(letters).collect()
 }
 
 fn structure(s: &Struct) -> String {
