@@ -46,9 +46,11 @@ module _ (s : Scheduler) (n : ℕ) where
   accepted : figureRefusal s n ≡ 0 → (sound s ≡ true) × (n < 64) × T (admittedAt s n)
   unfolding figureRefusal firstOf
   accepted e =
-      (by (λ b. _≡_ {A = ℕ} (cond (not b) 16 (cond (ltb 63 n || not (admittedAt s n)) 7 0)) 0 → sound s ≡ b → (sound s ≡ true) × (n < 64) × T (admittedAt s n)) (sound s)
+      (by (λ b. _≡_ {A = ℕ} (cond (not b) 16 (cond (ltb 63 n || not (admittedAt s n)) 7 0)) 0 → sound s ≡ b
+      → (sound s ≡ true) × (n < 64) × T (admittedAt s n)) (sound s)
       (λ _ t ok.
-      (by (λ b. _≡_ {A = ℕ} (cond (b || not (admittedAt s n)) 7 0) 0 → ltb 63 n ≡ b → (sound s ≡ true) × (n < 64) × T (admittedAt s n)) (ltb 63 n)
+      (by (λ b. _≡_ {A = ℕ} (cond (b || not (admittedAt s n)) 7 0) 0 → ltb 63 n ≡ b
+      → (sound s ≡ true) × (n < 64) × T (admittedAt s n)) (ltb 63 n)
       (λ _ u _. never 6 u)
       (λ _ u low.
       (by (λ b. _≡_ {A = ℕ} (cond (not b) 7 0) 0 → admittedAt s n ≡ b → (sound s ≡ true) × (n < 64) × T (admittedAt s n)) (admittedAt s n)
@@ -69,7 +71,8 @@ module _ (s : Scheduler) (n : ℕ) where
     pub found : (t : Thread) → accountOf s n ≡ Found t → reply (figureRefusal s n) none (value (threadAt s n)) ≡ figure 0 (value t)
     unfolding accountOf
     found t e =
-        (by (λ b. cond b (Found (threadAt s n)) (Refused (figureRefusal s n)) ≡ Found t → cond b (figure 0 (value (threadAt s n))) (figure (figureRefusal s n) none) ≡ figure 0 (value t)) (eqb (figureRefusal s n) 0)
+        (by (λ b. cond b (Found (threadAt s n)) (Refused (figureRefusal s n)) ≡ Found t
+        → cond b (figure 0 (value (threadAt s n))) (figure (figureRefusal s n) none) ≡ figure 0 (value t)) (eqb (figureRefusal s n) 0)
         (λ _ u. let z : threadAt s n ≡ t = cc in ap (λ (x : Thread). figure 0 (value x)) z)
         (λ _ u. absurd (let z : _≡_ {A = ℕ} 0 1 = cc in omega arith)))
         e
@@ -77,7 +80,8 @@ module _ (s : Scheduler) (n : ℕ) where
     pub refused : (k : ℕ) → accountOf s n ≡ Refused k → reply (figureRefusal s n) none (value (threadAt s n)) ≡ figure k none
     unfolding accountOf
     refused k e =
-        (by (λ b. cond b (Found (threadAt s n)) (Refused (figureRefusal s n)) ≡ Refused k → cond b (figure 0 (value (threadAt s n))) (figure (figureRefusal s n) none) ≡ figure k none) (eqb (figureRefusal s n) 0)
+        (by (λ b. cond b (Found (threadAt s n)) (Refused (figureRefusal s n)) ≡ Refused k
+        → cond b (figure 0 (value (threadAt s n))) (figure (figureRefusal s n) none) ≡ figure k none) (eqb (figureRefusal s n) 0)
         (λ _ u. absurd (let z : _≡_ {A = ℕ} 0 1 = cc in omega arith))
         (λ _ u. let z : figureRefusal s n ≡ k = cc in ap (λ (x : ℕ). figure x none) z))
         e
@@ -86,7 +90,8 @@ module _ (s : Scheduler) (n : ℕ) where
   pub found-bounded : (t : Thread) → accountOf s n ≡ Found t → Bounded (s .meter) t
   unfolding accountOf
   found-bounded t e =
-      (by (λ b. cond b (Found (threadAt s n)) (Refused (figureRefusal s n)) ≡ Found t → eqb (figureRefusal s n) 0 ≡ b → Bounded (s .meter) t) (eqb (figureRefusal s n) 0)
+      (by (λ b. cond b (Found (threadAt s n)) (Refused (figureRefusal s n)) ≡ Found t → eqb (figureRefusal s n) 0 ≡ b
+      → Bounded (s .meter) t) (eqb (figureRefusal s n) 0)
       (λ _ u q.
       let z : threadAt s n ≡ t = cc in
       let a = accepted (eqb-true (figureRefusal s n) 0 q) in

@@ -24,11 +24,13 @@ module _ {A : Type 0} where
   unfolding overlaid
   overlaid-is rows n table = refl
 
-  pub overlaid-length : (rows : List A) (i : ℕ) (table : List A) → i ≤ length rows → i ≤ length table → length (overlaid rows i table) ≡ length table
+  pub overlaid-length : (rows : List A) (i : ℕ) (table : List A) → i ≤ length rows → i ≤ length table
+      → length (overlaid rows i table) ≡ length table
   unfolding overlaid
   overlaid-length rows i table h k = simp (length-append, length-take-le, length-drop) (omega arith)
 
-  next : (rows : List A) (i : ℕ) (table : List A) (d : A) → i < length rows → i < length table → set (overlaid rows i table) i (getD rows i d) ≡ overlaid rows (suc i) table
+  next : (rows : List A) (i : ℕ) (table : List A) (d : A) → i < length rows → i < length table
+      → set (overlaid rows i table) i (getD rows i d) ≡ overlaid rows (suc i) table
   unfolding overlaid
   next [] i table d h k = absurd (not-suc-le-zero h)
   next (x ∷ rows) i [] d h k = absurd (not-suc-le-zero k)
@@ -36,7 +38,8 @@ module _ {A : Type 0} where
   next (x ∷ rows) (suc i) (y ∷ table) d h k = ap (λ (l : List A). x ∷ l) (next rows i table d (le-of-suc-le-suc h) (le-of-suc-le-suc k))
 
   -- one record more
-  pub overlaid-next : (rows : List A) (i : ℕ) (table : List A) (d : A) → i < length rows → i < length table → set (overlaid rows i table) i (getD rows i d) ≡ overlaid rows (i + 1) table
+  pub overlaid-next : (rows : List A) (i : ℕ) (table : List A) (d : A) → i < length rows → i < length table
+      → set (overlaid rows i table) i (getD rows i d) ≡ overlaid rows (i + 1) table
   overlaid-next rows i table d h k = next rows i table d h k ∙ ap (λ (n : ℕ). overlaid rows n table) (sym (add-one i))
 
 -- a number is below another or not

@@ -22,10 +22,21 @@ element-copy-out-t : tie.Need-element-copy-out-t
 element-copy-out-t c = search needs
 
 returns-3 : tie.Need-returns-3
-returns-3 c = not-admitted _ _ (sym (c .before .before .before .before .before .sound .ensures) ∙ not-false _ (c .before .before .before .before .if1 .left)) (c .before .before .before .if2 .left) (admitted-no (c .before .before .before .before .before .before .args .t1) (c .before .before .before .before .before .before .args .number) (c .if3 .taken))
+returns-3 c =
+    let i2 = c .before .before .before in
+    let i1 = i2 .before in
+    let s = i1 .before in
+    let s2 = s .before .args in
+    not-admitted _ _ (sym (s .sound .ensures) ∙ not-false _ (i1 .if1 .left)) (i2 .if2 .left)
+    (admitted-no (s2 .t1) (s2 .number) (c .if3 .taken))
 
 returns-4 : tie.Need-returns-4
-returns-4 c = admitted _ _ (sym (c .before .before .before .before .before .sound .ensures) ∙ not-false _ (c .before .before .before .before .if1 .left)) (c .before .before .before .if2 .left) (admitted-yes (c .before .before .before .before .before .before .args .t1) (c .before .before .before .before .before .before .args .number) (c .if3 .left))
+returns-4 c =
+    let i2 = c .before .before .before in
+    let i1 = i2 .before in
+    let s = i1 .before in
+    let s2 = s .before .args in
+    admitted _ _ (sym (s .sound .ensures) ∙ not-false _ (i1 .if1 .left)) (i2 .if2 .left) (admitted-yes (s2 .t1) (s2 .number) (c .if3 .left))
 
 pub find-spec : {M : Type 1} → statement M
 find-spec =

@@ -16,7 +16,9 @@ enum-known-t : tie.Need-enum-known-t
 enum-known-t c = search needs
 
 lag-of-requires : tie.Need-lag-of-requires
-lag-of-requires c κs = found-bounded _ _ _ (sym (c .before .before .before .find .ensures) ∙ c .before .t .given .1)
+lag-of-requires c κs =
+    let f = c .before .before .before .find in
+    found-bounded _ _ _ (sym (f .ensures) ∙ c .before .t .given .1)
 
 enum-known-k : tie.Need-enum-known-k
 enum-known-k c = search needs
@@ -24,12 +26,19 @@ enum-known-k c = search needs
 returns : tie.Need-returns
 unfolding lagLine lagReply
 returns c =
+    let t2 = c .before .before in
+    let f = t2 .before .before in
+    let s2 = f .before .args in
     ap (figure 0) (lag-bits _ _ (lag-of-requires (c .before) tt) _ (c .lag-of .ensures))
-    ∙ sym (found (c .before .before .before .before .before .args .s) (c .before .before .before .before .before .args .number) (pos 0) (lagOf (c .before .before .before .before .before .args .s .meter)) (c .before .before .t .given .0 .0) (sym (c .before .before .before .before .find .ensures) ∙ c .before .before .t .given .1))
+    ∙ sym (found (s2 .s) (s2 .number) (pos 0) (lagOf (s2 .s .meter)) (t2 .t .given .0 .0) (sym (f .find .ensures) ∙ t2 .t .given .1))
 
 returns-2 : tie.Need-returns-2
 unfolding lagLine lagReply
-returns-2 c = sym (refused (c .before .before .before .before .args .s) (c .before .before .before .before .args .number) (pos 0) (lagOf (c .before .before .before .before .args .s .meter)) (c .before .k .given .0 .0) (sym (c .before .before .before .find .ensures) ∙ c .before .k .given .1))
+returns-2 c =
+    let k2 = c .before in
+    let f = k2 .before .before in
+    let s2 = f .before .args in
+    sym (refused (s2 .s) (s2 .number) (pos 0) (lagOf (s2 .s .meter)) (k2 .k .given .0 .0) (sym (f .find .ensures) ∙ k2 .k .given .1))
 
 pub lag-spec : {M : Type 1} → statement M
 lag-spec =

@@ -6,6 +6,10 @@ use Rattle.accounts.proofs.Signed.{diff-fits, diff-bits, due-small, lag
 use Rattle.accounts.proofs.figures.lag_of.Statement.{statement}
 use Rattle.accounts.proofs.figures.lag_of.Tie as tie
 
+-- the place that the needs look back to
+abbrev start : tie.After-struct-known3 → tie.Start
+start p = p .before .before .before .before
+
 returns : tie.Need-returns
 returns c = sym (lag-blocked _ _ (c .if1 .taken))
 
@@ -16,13 +20,17 @@ sub-due : tie.Need-sub-due
 sub-due c = search needs
 
 mul-due : tie.Need-mul-due
-mul-due c = record { fits = omega (arith, due-small (c .before .before .before .before .args .meter) (c .before .before .before .before .args .t) (c .before .before .before .before .pre)) }
+mul-due c =
+    let s = start c in
+    record { fits = omega (arith, due-small (s .args .meter) (s .args .t) (s .pre)) }
 
 mul-had : tie.Need-mul-had
 mul-had c = search needs
 
 cast-result : tie.Need-cast-result
-cast-result c = record { sfits = due-small _ _ (c .before .before .before .before .before .pre) }
+cast-result c =
+    let s = start (c .before) in
+    record { sfits = due-small _ _ (s .pre) }
 
 cast-result-2 : tie.Need-cast-result-2
 cast-result-2 c = search needs
@@ -31,7 +39,9 @@ sub-result : tie.Need-sub-result
 sub-result c = diff-fits _ _ (cast-result c .sfits) (cast-result-2 c .sfits)
 
 returns-2 : tie.Need-returns-2
-returns-2 c = diff-bits _ _ (cast-result c .sfits) (cast-result-2 c .sfits) ∙ sym (lag-runnable _ _ (c .before .before .before .if1 .left))
+returns-2 c =
+    let i1 = c .before .before .before .if1 in
+    diff-bits _ _ (cast-result c .sfits) (cast-result-2 c .sfits) ∙ sym (lag-runnable _ _ (i1 .left))
 
 pub lag-of-spec : {M : Type 1} → statement M
 lag-of-spec =

@@ -14,7 +14,9 @@ enum-known-t : tie.Need-enum-known-t
 enum-known-t c = search needs
 
 share-of-requires : tie.Need-share-of-requires
-share-of-requires c κs = found-bounded _ _ _ (sym (c .before .before .before .find .ensures) ∙ c .before .t .given .1)
+share-of-requires c κs =
+    let f = c .before .before .before .find in
+    found-bounded _ _ _ (sym (f .ensures) ∙ c .before .t .given .1)
 
 enum-known-k : tie.Need-enum-known-k
 enum-known-k c = search needs
@@ -22,12 +24,19 @@ enum-known-k c = search needs
 returns : tie.Need-returns
 unfolding shareLine shareReply
 returns c =
+    let t2 = c .before .before in
+    let f = t2 .before .before in
+    let s2 = f .before .args in
     ap (figure 0) (c .share-of .ensures)
-    ∙ sym (found (c .before .before .before .before .before .args .s) (c .before .before .before .before .before .args .number) 0 (shareOf (c .before .before .before .before .before .args .s .meter)) (c .before .before .t .given .0 .0) (sym (c .before .before .before .before .find .ensures) ∙ c .before .before .t .given .1))
+    ∙ sym (found (s2 .s) (s2 .number) 0 (shareOf (s2 .s .meter)) (t2 .t .given .0 .0) (sym (f .find .ensures) ∙ t2 .t .given .1))
 
 returns-2 : tie.Need-returns-2
 unfolding shareLine shareReply
-returns-2 c = sym (refused (c .before .before .before .before .args .s) (c .before .before .before .before .args .number) 0 (shareOf (c .before .before .before .before .args .s .meter)) (c .before .k .given .0 .0) (sym (c .before .before .before .find .ensures) ∙ c .before .k .given .1))
+returns-2 c =
+    let k2 = c .before in
+    let f = k2 .before .before in
+    let s2 = f .before .args in
+    sym (refused (s2 .s) (s2 .number) 0 (shareOf (s2 .s .meter)) (k2 .k .given .0 .0) (sym (f .find .ensures) ∙ k2 .k .given .1))
 
 pub share-spec : {M : Type 1} → statement M
 share-spec =
