@@ -80,8 +80,8 @@ C, with this folder as vendor/mtr:
 
     #include <mtr.h>
 
-    mtr_scheduler state = mtr_start(MTR_DEFAULT_THOUSANDTH, MTR_DEFAULT_INTERVAL).state;
-    mtr_reply reply = mtr_admit(state, 5, 0, 500);
+    mtr_scheduler state = mtr_by_value_start(MTR_DEFAULT_THOUSANDTH, MTR_DEFAULT_INTERVAL).state;
+    mtr_reply reply = mtr_by_value_admit(state, 5, 0, 500);
     state = reply.state;
 
 Rust, in Cargo.toml (the build script finds ../lib/libmtr.a):

@@ -13,7 +13,7 @@ printf '%-12s%8s%10s  %-42s%8s  %-42s%s\n' call threads cheapest '' dearest '' r
 for call in $("$bench" calls); do
     rm -f "$work"/*
     # Counts only within the exported function, and parts them where a case begins and where it ends.
-    if ! valgrind --tool=callgrind --callgrind-out-file="$work/out" --toggle-collect="mtr_$call" \
+    if ! valgrind --tool=callgrind --callgrind-out-file="$work/out" --toggle-collect="mtr_by_value_$call" \
         --dump-before=bench_case "$bench" one "$call" "$calls" >"$work/cases" 2>"$work/log"; then
         cat "$work/log" >&2
         exit 1
@@ -32,10 +32,9 @@ for call in $("$bench" calls); do
             if (!(threads in high) || count > high[threads]) { high[threads] = count; dear[threads] = name }
         }
         END {
-            bar = call == "dispatch" || call == "report" ? " (bar 3)" : ""
             for (i = 1; i <= n; i++) {
                 t = order[i]
-                printf "%-12s%8s%10d  %-42s%8d  %-42s%.2f%s\n", call, t, low[t], cheap[t], high[t], dear[t], high[t] / low[t], bar
+                printf "%-12s%8s%10d  %-42s%8d  %-42s%.2f\n", call, t, low[t], cheap[t], high[t], dear[t], high[t] / low[t]
             }
         }'
 done

@@ -9,10 +9,10 @@ use borrow.Author.Tests.{lt-ltb, le-ltb, eq-eqb, ne-eqb}
 use lib.IntN.{ℤ}
 use lib.ListN.{length, getD, take, drop, set, replicate, length-set, length-replicate, length-map}
 use lib.Seq.{length-take-le, take-suc-set, take-suc, getD-take}
+use Rattle.base.specs.Checks.{firstOf}
 use Rattle.scheduler.specs.declared.Scheduler.{Scheduler}
 use Rattle.scheduler.specs.State.{threadAt, allotmentAt}
 use Rattle.scheduler.specs.Sound.{sound}
-use Rattle.scheduler.specs.Refusals.{firstOf}
 use Rattle.scheduler.specs.Accounts.{lagOf, shareOf}
 use Rattle.accounts.specs.declared.Entry.{Entry}
 use Rattle.accounts.specs.declared.sort.Key.{Key}

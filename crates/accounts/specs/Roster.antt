@@ -4,10 +4,10 @@ use mathlib.Core.Bool.{not, cond}
 use mathlib.Core.List.{List, [], _∷_, _++_, map}
 use lib.Dec.{ltb, eqb}
 use lib.ListN.{length, drop}
+use Rattle.base.specs.Checks.{_⇒_, firstOf}
 use Rattle.scheduler.specs.declared.Scheduler.{Scheduler}
 use Rattle.scheduler.specs.State.{threadAt, allotmentAt}
 use Rattle.scheduler.specs.Sound.{sound}
-use Rattle.scheduler.specs.Refusals.{firstOf, _⇒_}
 use Rattle.scheduler.specs.Accounts.{lagOf, shareOf}
 use Rattle.accounts.specs.declared.Entry.{Entry}
 use Rattle.accounts.specs.Order.{ordered, keysBelow}

@@ -3,12 +3,13 @@ use mathlib.Core.Path.{_≡_, refl}
 use mathlib.Core.List.{List, [], _∷_}
 use lib.ListN.{take, drop}
 use lib.Dec.{T}
-use Rattle.order.specs.Lists.{member, distinct, without, everyOf, everyBelow, sumBelow, first, passed}
-use Rattle.order.proofs.Bools.{both}
+use Rattle.base.specs.Checks.{within, firstOf}
+use Rattle.base.specs.Lists.{member, distinct, without, everyOf, everyBelow, sumBelow, first, passed}
+use Rattle.base.proofs.Bools.{both}
 use Rattle.scheduler.specs.declared.Scheduler.{Scheduler}
 use Rattle.scheduler.specs.State.{admittedAt, blockedAt, runnableAt, reservationAt, allotmentAt, openAt, listed, sliceAt, withThread, withGroup, withList, withRun}
-use Rattle.scheduler.specs.Sound.{within, settingsOk, load, threadIn, childOf, reservedIn, ceilingsIn, groupOk, groupsOk, threadOk, listOk, runningOk, shapeOk, sound}
-use Rattle.scheduler.specs.Refusals.{Call, admit, wake, dispatch, report, firstOf, free, inUse, checks, refusal}
+use Rattle.scheduler.specs.Sound.{settingsOk, load, threadIn, childOf, reservedIn, ceilingsIn, groupOk, groupsOk, threadOk, listOk, runningOk, shapeOk, sound}
+use Rattle.scheduler.specs.Refusals.{Call, admit, wake, dispatch, report, free, inUse, checks, refusal}
 use Rattle.scheduler.specs.Effects.{rear, toRear, offList, join, newThread, wokenThread, renewed, chargedThread, charged, exited, reported, chosen, passedOver, effect, started}
 use Rattle.scheduler.specs.Rule.{isDispatch, accept, refuse, step}
 use Rattle.scheduler.specs.Stretch.{keeps, trace, final, accepted, ticksOf, named, ticksIn, allTicks, ticksBy, throughout, keepsRunnable, keepsAdmitted, Protected, Present, Shares}

@@ -5,13 +5,14 @@ use mathlib.Core.Bool.{true, false, not, cond, _&&_, _||_}
 use native.Mathlib.Omega.{arith}
 use lib.Dec.{T, ltb, leb, eqb, lit<, leb→le}
 use borrow.Author.Tests.{eqb-true, eqb-false, ltb-false, leb-false, not-false}
-use Rattle.order.specs.Lists.{everyBelow, passed}
-use Rattle.order.proofs.Bools.{by, and-l, and-r, holds, or-false-l, or-false-r}
+use Rattle.base.specs.Checks.{within, _⇒_, firstOf}
+use Rattle.base.specs.Lists.{everyBelow, passed}
+use Rattle.base.proofs.Bools.{by, and-l, and-r, holds, or-false-l, or-false-r}
 use Rattle.scheduler.specs.declared.Thread.{Thread}
 use Rattle.scheduler.specs.declared.Scheduler.{Scheduler}
 use Rattle.scheduler.specs.State.{threadAt, admittedAt, openAt, sliceAt}
-use Rattle.scheduler.specs.Sound.{within, threadIn, childOf, sound}
-use Rattle.scheduler.specs.Refusals.{Call, openGroup, closeGroup, admit, remove, wake, dispatch, report, _⇒_, firstOf, free, inUse, checks, refusal}
+use Rattle.scheduler.specs.Sound.{threadIn, childOf, sound}
+use Rattle.scheduler.specs.Refusals.{Call, openGroup, closeGroup, admit, remove, wake, dispatch, report, free, inUse, checks, refusal}
 use Rattle.scheduler.specs.Effects.{toRear, renewed, charged, exited, reported}
 use Rattle.scheduler.specs.Stretch.{accepted}
 use Rattle.scheduler.proofs.Facts.{peel}

@@ -8,21 +8,22 @@ use lib.ListN.{length-set}
 use lib.Seq.{getD-set-same, getD-set-other}
 use lib.Dec.{T, ltb, eqb, lit<, lt→ltb}
 use borrow.Author.Tests.{eqb-true, eqb-false, ne-eqb, eq-eqb, not-false}
-use Rattle.order.specs.Lists.{distinct, everyOf, everyBelow, sumBelow}
-use Rattle.order.proofs.Bools.{by, cases, and-r, is, holds, clash, deny, or-false-l, or-false-r}
-use Rattle.order.proofs.Sums.{everyBelow-at, sum-update}
+use Rattle.base.specs.Checks.{within, _⇒_}
+use Rattle.base.specs.Lists.{distinct, everyOf, everyBelow, sumBelow}
+use Rattle.base.proofs.Bools.{by, cases, and-r, is, holds, clash, deny, or-false-l, or-false-r}
+use Rattle.base.proofs.Sums.{everyBelow-at, sum-update}
 use Rattle.scheduler.specs.declared.Group.{Group}
 use Rattle.scheduler.specs.declared.Scheduler.{Scheduler}
 use Rattle.scheduler.specs.State.{noGroup, threadAt, groupAt, admittedAt, blockedAt, runnableAt, reservationAt, openAt, listed, sliceAt, withGroup, isOpen}
-use Rattle.scheduler.specs.Sound.{within, settingsOk, load, threadIn, childOf, reservedIn, ceilingsIn, groupOk, groupsOk, threadOk, listOk, runningOk, shapeOk, sound}
-use Rattle.scheduler.specs.Refusals.{Call, openGroup, closeGroup, admit, remove, wake, dispatch, report, _⇒_, free, refusal, startRefusal}
+use Rattle.scheduler.specs.Sound.{settingsOk, load, threadIn, childOf, reservedIn, ceilingsIn, groupOk, groupsOk, threadOk, listOk, runningOk, shapeOk, sound}
+use Rattle.scheduler.specs.Refusals.{Call, openGroup, closeGroup, admit, remove, wake, dispatch, report, free, refusal, startRefusal}
 use Rattle.scheduler.specs.Effects.{effect, started, unstarted}
 use Rattle.scheduler.specs.Rule.{accept, refuse, step, startReply}
 use Rattle.scheduler.specs.Stretch.{accepted}
 use Rattle.scheduler.proofs.Facts.{GroupFacts, Facts, facts, sound-of, open-small, carries, peel}
 use Rattle.scheduler.proofs.Passed.{passes, remove-passed, wake-passed, report-passed, admit-ok, OpenOk, open-ok, CloseOk, close-ok, dispatch-early}
 use Rattle.scheduler.proofs.Tree.{carried}
-use Rattle.scheduler.proofs.Preserve.{wake-facts, remove-facts, report-facts, dispatch-facts, admit-facts}
+use Rattle.scheduler.proofs.Soundness.Calls.{wake-facts, remove-facts, report-facts, dispatch-facts, admit-facts}
 use Rattle.scheduler.proofs.ListRule.{step-state, refused-state}
 
 -- what group i adds to the load of group g

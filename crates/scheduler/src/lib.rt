@@ -5,8 +5,8 @@ ghost use Rattle.scheduler.specs.State.{defaultSettings};
 pub mod batch;
 pub mod groups;
 pub mod priority;
-pub mod run;
 pub mod sound;
+pub mod threads;
 
 // The settings: m, the ticks per thousandth of the virtual time quantum, and P, the preemption interval in ticks.
 #[repr(C)]

@@ -10,7 +10,7 @@ use crate::states::{
     above_groups, block_first, records, reservation, running, sloped, threads, worn,
 };
 
-/// The calls by their exported names without `mtr_`.
+/// The calls by their exported names without `mtr_by_value_`.
 pub const CALLS: [&str; 16] = [
     "start",
     "open",

@@ -133,14 +133,14 @@ fn contents() {
 const PROGRAM: &str = r#"#include <mtr.h>
 #include <stdio.h>
 int main(void) {
-    mtr_scheduler state = mtr_start(MTR_DEFAULT_THOUSANDTH, MTR_DEFAULT_INTERVAL).state;
-    state = mtr_admit(state, 5, 0, 500).state;
-    mtr_reply full = mtr_admit(state, 7, 0, 501);
-    mtr_reply run = mtr_dispatch(state);
+    mtr_scheduler state = mtr_by_value_start(MTR_DEFAULT_THOUSANDTH, MTR_DEFAULT_INTERVAL).state;
+    state = mtr_by_value_admit(state, 5, 0, 500).state;
+    mtr_reply full = mtr_by_value_admit(state, 7, 0, 501);
+    mtr_reply run = mtr_by_value_dispatch(state);
     mtr_records list = {{{MTR_KIND_DISPATCH, 0, 0, 0, 0, 0}}};
     uint8_t area[MTR_BLOCK_BYTES];
-    uint32_t written = mtr_write_block(area, sizeof area, 0, list, 1);
-    printf("%u %u %u %u %u\n", full.answer, run.thread, run.slice, written, mtr_read_block(area, sizeof area, 0).count);
+    uint32_t written = mtr_by_value_write_block(area, sizeof area, 0, list, 1);
+    printf("%u %u %u %u %u\n", full.answer, run.thread, run.slice, written, mtr_by_value_read_block(area, sizeof area, 0).count);
     return full.answer != MTR_REFUSED_NO_ROOM;
 }
 "#;

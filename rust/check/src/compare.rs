@@ -173,7 +173,11 @@ pub fn start(m: u64, p: u64) -> Result<Scheduler, u32> {
 /// The soundness test on both sides.
 pub fn sound(s: &Scheduler) -> bool {
     let wanted = s.sound();
-    assert_eq!(mtr::raw::mtr_sound(to_library(s)), wanted as u32, "{s:?}");
+    assert_eq!(
+        mtr::raw::mtr_by_value_sound(to_library(s)),
+        wanted as u32,
+        "{s:?}"
+    );
     wanted
 }
 

@@ -168,7 +168,8 @@ fn read(page: &mut Guarded, area: &[u8], place: u32) -> Result<Vec<Record>, u32>
     for side in [Side::Front, Side::Back] {
         let at = page.lend(side, area, 0xa5);
         // SAFETY: the page holds the area.
-        let found = page.read_only(|| unsafe { raw::mtr_read_block(at, area.len(), place) });
+        let found =
+            page.read_only(|| unsafe { raw::mtr_by_value_read_block(at, area.len(), place) });
         assert_eq!(found.answer, wanted.as_ref().err().copied().unwrap_or(0));
         let records = wanted.as_deref().unwrap_or_default();
         assert_eq!(found.count as usize, records.len());
@@ -185,7 +186,8 @@ fn read(page: &mut Guarded, area: &[u8], place: u32) -> Result<Vec<Record>, u32>
         for side in [Side::Front, Side::Back] {
             let at = page.lend(side, &[0x5a; BLOCK], 0xa5);
             // SAFETY: the page holds the area.
-            let answer = unsafe { raw::mtr_write_block(at, BLOCK, place, list, records.len()) };
+            let answer =
+                unsafe { raw::mtr_by_value_write_block(at, BLOCK, place, list, records.len()) };
             assert_eq!(answer, 0);
             assert!(page.contents(side, BLOCK) == area && page.intact(side, BLOCK));
         }
@@ -224,7 +226,7 @@ fn roster(page: &mut Guarded, s: &Scheduler) {
             let table = page.lend(side, &vec![0; ENTRY * length], 0xa5);
             // SAFETY: the page holds the table, which is aligned at both ends, and an entry is numbers.
             let found = unsafe {
-                let found = raw::mtr_roster(to_library(s), table.cast(), length);
+                let found = raw::mtr_by_value_roster(to_library(s), table.cast(), length);
                 assert_eq!(found, answer);
                 std::slice::from_raw_parts(table.cast::<raw::Entry>(), length).to_vec()
             };

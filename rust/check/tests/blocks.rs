@@ -474,8 +474,9 @@ fn records_past_the_count() {
         let mut area = [7; BLOCK];
         let number = r.bits() as u32;
         // SAFETY: pointer and length are those of the area.
-        let answer =
-            unsafe { mtr::raw::mtr_write_block(area.as_mut_ptr(), BLOCK, number, records, count) };
+        let answer = unsafe {
+            mtr::raw::mtr_by_value_write_block(area.as_mut_ptr(), BLOCK, number, records, count)
+        };
         let mut wanted = [7; BLOCK];
         if count > RECORDS {
             assert_eq!(answer, 19, "{count}");

@@ -43,12 +43,16 @@ fn a_million_calls() {
 fn every_function() {
     let declared: Vec<&str> = include_str!("../../mtr/src/raw.rs")
         .lines()
-        .filter_map(|line| line.split_once("fn mtr_")?.1.split_once('('))
+        .filter_map(|line| line.split_once(" fn ")?.1.split_once('('))
         .map(|(name, _)| name)
+        .filter(|name| name.starts_with("mtr_"))
         .collect();
-    let called: Vec<&str> = FUNCTIONS.iter().map(|(name, _)| &name[4..]).collect();
+    // mtr_version takes nothing, so that one call is all of them.
+    assert!(raw::mtr_version() > 0);
+    let mut called: Vec<&str> = FUNCTIONS.iter().map(|(name, _)| *name).collect();
+    called.push("mtr_version");
     for name in &declared {
-        assert!(called.contains(name), "mtr_{name} is not called");
+        assert!(called.contains(name), "{name} is not called");
     }
     assert_eq!(declared.len(), called.len());
 }
@@ -77,7 +81,7 @@ fn touch(name: &str) {
     block[511] = 1;
     let front = page.lend(Side::Front, &block, 1);
     let back = page.lend(Side::Back, &block, 1);
-    let state = raw::mtr_admit(raw::mtr_start(100, 20_000).state, 1, 0, 10).state;
+    let state = raw::mtr_by_value_admit(raw::mtr_by_value_start(100, 20_000).state, 1, 0, 10).state;
     // SAFETY: none of them is, but for "inside". They touch a byte next to the page, or say of an area that it is
     // longer than it is or begins earlier, which the library has to be caught believing.
     unsafe {
@@ -86,29 +90,29 @@ fn touch(name: &str) {
                 front.write_volatile(front.add(4095).read_volatile());
                 back.add(511).write_volatile(back.read_volatile());
                 let records = raw::Records::default();
-                assert_eq!(raw::mtr_write_block(front, 512, 0, records, 0), 0);
-                assert_eq!(raw::mtr_read_block(front, 512, 0).answer, 0);
-                assert_eq!(raw::mtr_write_block(back, 512, 0, records, 0), 0);
+                assert_eq!(raw::mtr_by_value_write_block(front, 512, 0, records, 0), 0);
+                assert_eq!(raw::mtr_by_value_read_block(front, 512, 0).answer, 0);
+                assert_eq!(raw::mtr_by_value_write_block(back, 512, 0, records, 0), 0);
                 assert_eq!(
-                    page.read_only(|| raw::mtr_read_block(back, 512, 0).answer),
+                    page.read_only(|| raw::mtr_by_value_read_block(back, 512, 0).answer),
                     0
                 );
                 let entry = page.at(Side::Back, 24);
-                assert_eq!(raw::mtr_roster(state, entry.cast(), 1), 0);
+                assert_eq!(raw::mtr_by_value_roster(state, entry.cast(), 1), 0);
             }
             "read before" => drop(front.sub(1).read_volatile()),
             "read after" => drop(back.add(512).read_volatile()),
             "write before" => front.sub(1).write_volatile(1),
             "write after" => back.add(512).write_volatile(1),
             "write while read-only" => page.read_only(|| back.write_volatile(1)),
-            "library reads before" => drop(raw::mtr_read_block(front.sub(1), 512, 0)),
-            "library reads after" => drop(raw::mtr_read_block(back.add(1), 512, 0)),
+            "library reads before" => drop(raw::mtr_by_value_read_block(front.sub(1), 512, 0)),
+            "library reads after" => drop(raw::mtr_by_value_read_block(back.add(1), 512, 0)),
             "library writes after" => {
-                raw::mtr_write_block(back.add(1), 512, 0, raw::Records::default(), 0);
+                raw::mtr_by_value_write_block(back.add(1), 512, 0, raw::Records::default(), 0);
             }
             "library fills after" => {
                 let entry = page.at(Side::Back, 16);
-                raw::mtr_roster(state, entry.cast(), 1);
+                raw::mtr_by_value_roster(state, entry.cast(), 1);
             }
             _ => panic!("no touch {name}"),
         }

@@ -15,79 +15,79 @@ pub use crate::raw::{
 /// A fresh state with m and P. Refused, the state is all zeros.
 #[inline]
 pub fn start(thousandth: u64, interval: u64) -> Reply {
-    raw::mtr_start(thousandth, interval)
+    raw::mtr_by_value_start(thousandth, interval)
 }
 
 /// Opens a group below a parent.
 #[inline]
 pub fn open(state: Scheduler, number: u64, parent: u64, ceiling: u64) -> Reply {
-    raw::mtr_open(state, number, parent, ceiling)
+    raw::mtr_by_value_open(state, number, parent, ceiling)
 }
 
 /// Closes a group.
 #[inline]
 pub fn close(state: Scheduler, number: u64) -> Reply {
-    raw::mtr_close(state, number)
+    raw::mtr_by_value_close(state, number)
 }
 
 /// Admits a thread to a group.
 #[inline]
 pub fn admit(state: Scheduler, number: u64, group: u64, reservation: u64) -> Reply {
-    raw::mtr_admit(state, number, group, reservation)
+    raw::mtr_by_value_admit(state, number, group, reservation)
 }
 
 /// Removes a thread that does not run.
 #[inline]
 pub fn remove(state: Scheduler, number: u64) -> Reply {
-    raw::mtr_remove(state, number)
+    raw::mtr_by_value_remove(state, number)
 }
 
 /// Makes a blocked thread runnable.
 #[inline]
 pub fn wake(state: Scheduler, number: u64) -> Reply {
-    raw::mtr_wake(state, number)
+    raw::mtr_by_value_wake(state, number)
 }
 
 /// Takes the first runnable thread of the list, or is idle with thread 64.
 #[inline]
 pub fn dispatch(state: Scheduler) -> Reply {
-    raw::mtr_dispatch(state)
+    raw::mtr_by_value_dispatch(state)
 }
 
 /// Charges the running thread and ends its run.
 #[inline]
 pub fn report(state: Scheduler, reason: u64, used: u64) -> Reply {
-    raw::mtr_report(state, reason, used)
+    raw::mtr_by_value_report(state, reason, used)
 }
 
 /// The state is sound.
 #[inline]
 pub fn sound(state: Scheduler) -> bool {
-    raw::mtr_sound(state) == 1
+    raw::mtr_by_value_sound(state) == 1
 }
 
 /// Reservation of a priority of 1 to 10.
 #[inline]
 pub fn priority(priority: u64) -> Mapped {
-    raw::mtr_priority(priority)
+    raw::mtr_by_value_priority(priority)
 }
 
 /// Reservations in a group and in the groups below it.
 #[inline]
 pub fn subtree(state: Scheduler, group: u64) -> Total {
-    raw::mtr_subtree(state, group)
+    raw::mtr_by_value_subtree(state, group)
 }
 
 /// A thread's lag.
 #[inline]
 pub fn lag(state: Scheduler, number: u64) -> LagLine {
-    raw::mtr_lag(state, number)
+    raw::mtr_by_value_lag(state, number)
 }
 
 /// A thread's achieved share in thousandths.
 #[inline]
 pub fn share(state: Scheduler, number: u64) -> ShareLine {
-    raw::mtr_share(state, number)
+    raw::mtr_by_value_share(state, number)
 }
 
 /// Fills the table with the admitted threads, largest lag first, and answers 0,
@@ -95,7 +95,7 @@ pub fn share(state: Scheduler, number: u64) -> ShareLine {
 #[inline]
 pub fn roster(state: Scheduler, table: &mut [Entry]) -> u32 {
     // SAFETY: pointer and length are those of the slice, lent to the call alone.
-    unsafe { raw::mtr_roster(state, table.as_mut_ptr(), table.len()) }
+    unsafe { raw::mtr_by_value_roster(state, table.as_mut_ptr(), table.len()) }
 }
 
 /// Writes a block and answers 0, 17 or 19. Refused, the area keeps its
@@ -113,14 +113,14 @@ pub fn write_block(area: &mut [u8], block: u32, records: &[Record]) -> u32 {
 #[inline]
 pub fn write_first(area: &mut [u8], block: u32, list: Records, count: usize) -> u32 {
     // SAFETY: pointer and length are those of the slice, lent to the call alone.
-    unsafe { raw::mtr_write_block(area.as_mut_ptr(), area.len(), block, list, count) }
+    unsafe { raw::mtr_by_value_write_block(area.as_mut_ptr(), area.len(), block, list, count) }
 }
 
 /// The records of the block of the expected number, or 17, 18, 19.
 #[inline]
 pub fn read_block(area: &[u8], block: u32) -> Found {
     // SAFETY: pointer and length are those of the slice, lent to the call.
-    unsafe { raw::mtr_read_block(area.as_ptr(), area.len(), block) }
+    unsafe { raw::mtr_by_value_read_block(area.as_ptr(), area.len(), block) }
 }
 
 impl Reply {

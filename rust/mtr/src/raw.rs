@@ -416,7 +416,7 @@ unsafe extern "C" {
     ///
     /// The state is then all zeros, on which every call answers 16. It takes no
     /// state, so that any other is unchanged.
-    pub safe fn mtr_start(thousandth: u64, interval: u64) -> Reply;
+    pub safe fn mtr_by_value_start(thousandth: u64, interval: u64) -> Reply;
 
     /// Opens a group below an open parent of a lower number, with a ceiling in
     /// thousandths.
@@ -430,7 +430,12 @@ unsafe extern "C" {
     /// - 5 [`REFUSED_NO_ROOM`]: the ceiling exceeds what the parent has free
     ///
     /// The state is then unchanged. Accepted, only the group's entry changes.
-    pub safe fn mtr_open(state: Scheduler, number: u64, parent: u64, ceiling: u64) -> Reply;
+    pub safe fn mtr_by_value_open(
+        state: Scheduler,
+        number: u64,
+        parent: u64,
+        ceiling: u64,
+    ) -> Reply;
 
     /// Closes a group that has no thread and no child.
     ///
@@ -440,7 +445,7 @@ unsafe extern "C" {
     /// - 6 [`REFUSED_GROUP_IN_USE`]: the group has a thread or a child
     ///
     /// The state is then unchanged. Accepted, only the group's entry changes.
-    pub safe fn mtr_close(state: Scheduler, number: u64) -> Reply;
+    pub safe fn mtr_by_value_close(state: Scheduler, number: u64) -> Reply;
 
     /// Admits a thread to a group with a reservation in thousandths: runnable,
     /// with a full allotment, at the rear of the list.
@@ -455,7 +460,12 @@ unsafe extern "C" {
     ///
     /// The state is then unchanged. Accepted, every other thread is unchanged,
     /// and so are the groups.
-    pub safe fn mtr_admit(state: Scheduler, number: u64, group: u64, reservation: u64) -> Reply;
+    pub safe fn mtr_by_value_admit(
+        state: Scheduler,
+        number: u64,
+        group: u64,
+        reservation: u64,
+    ) -> Reply;
 
     /// Removes a thread that does not run: takes it off the list and frees its
     /// number and reservation.
@@ -467,7 +477,7 @@ unsafe extern "C" {
     ///
     /// The state is then unchanged. Accepted, every other thread and the
     /// others' mutual order are unchanged, and so are the groups.
-    pub safe fn mtr_remove(state: Scheduler, number: u64) -> Reply;
+    pub safe fn mtr_by_value_remove(state: Scheduler, number: u64) -> Reply;
 
     /// Makes a blocked thread runnable.
     ///
@@ -478,7 +488,7 @@ unsafe extern "C" {
     ///
     /// The state is then unchanged. Accepted, the list, the thread's allotment
     /// and every other thread are unchanged.
-    pub safe fn mtr_wake(state: Scheduler, number: u64) -> Reply;
+    pub safe fn mtr_by_value_wake(state: Scheduler, number: u64) -> Reply;
 
     /// Takes the first runnable thread of the list to run for its slice, the
     /// smaller of its allotment and P. Answers the thread, the slice and how
@@ -492,7 +502,7 @@ unsafe extern "C" {
     ///
     /// The state is then unchanged. Accepted, only the number of the running
     /// thread changes, and nothing if idle.
-    pub safe fn mtr_dispatch(state: Scheduler) -> Reply;
+    pub safe fn mtr_by_value_dispatch(state: Scheduler) -> Reply;
 
     /// Charges the running thread the ticks used and ends its run. An allotment
     /// that reaches 0 is made full and the thread moves to the rear. Reasons: 0
@@ -508,14 +518,14 @@ unsafe extern "C" {
     ///
     /// The state is then unchanged. Accepted, every other thread and the
     /// others' mutual order are unchanged, and so are the groups.
-    pub safe fn mtr_report(state: Scheduler, reason: u64, used: u64) -> Reply;
+    pub safe fn mtr_by_value_report(state: Scheduler, reason: u64, used: u64) -> Reply;
 
     /// Answers 1 if the state is sound, else 0.
     ///
     /// Refuses nothing.
     ///
     /// The state is unchanged.
-    pub safe fn mtr_sound(state: Scheduler) -> u32;
+    pub safe fn mtr_by_value_sound(state: Scheduler) -> u32;
 
     /// The reservation of a priority: the priority plus 10.
     ///
@@ -523,7 +533,7 @@ unsafe extern "C" {
     /// - 4 [`REFUSED_AMOUNT`]: the priority is outside 1 to 10
     ///
     /// It takes no state, so that any is unchanged.
-    pub safe fn mtr_priority(priority: u64) -> Mapped;
+    pub safe fn mtr_by_value_priority(priority: u64) -> Mapped;
 
     /// The reservations in a group and in every group below it, in thousandths.
     ///
@@ -532,7 +542,7 @@ unsafe extern "C" {
     /// - 2 [`REFUSED_NO_GROUP`]: the group is above 15 or not open
     ///
     /// The state is unchanged.
-    pub safe fn mtr_subtree(state: Scheduler, group: u64) -> Total;
+    pub safe fn mtr_by_value_subtree(state: Scheduler, group: u64) -> Total;
 
     /// A thread's lag: its reservation times the meter's growth since its
     /// anchor, less 1000 times its own ticks since; 0 while it is blocked.
@@ -542,7 +552,7 @@ unsafe extern "C" {
     /// - 7 [`REFUSED_NO_THREAD`]: the number is above 63 or not admitted
     ///
     /// The state is unchanged.
-    pub safe fn mtr_lag(state: Scheduler, number: u64) -> LagLine;
+    pub safe fn mtr_by_value_lag(state: Scheduler, number: u64) -> LagLine;
 
     /// A thread's achieved share: its ticks since admission in thousandths of
     /// the meter's growth since then, rounded down; 0 if it has not grown.
@@ -552,7 +562,7 @@ unsafe extern "C" {
     /// - 7 [`REFUSED_NO_THREAD`]: the number is above 63 or not admitted
     ///
     /// The state is unchanged.
-    pub safe fn mtr_share(state: Scheduler, number: u64) -> ShareLine;
+    pub safe fn mtr_by_value_share(state: Scheduler, number: u64) -> ShareLine;
 
     /// Fills a lent table with the record of every admitted thread, largest lag
     /// first, equal lags by lower number.
@@ -568,7 +578,7 @@ unsafe extern "C" {
     ///
     /// `table` is valid for reads and writes of `table_len` elements, is
     /// aligned and not null, and nothing else uses them during the call.
-    pub unsafe fn mtr_roster(state: Scheduler, table: *mut Entry, table_len: usize) -> u32;
+    pub unsafe fn mtr_by_value_roster(state: Scheduler, table: *mut Entry, table_len: usize) -> u32;
 
     /// Writes the block of this number with the first `count` records to a lent
     /// area.
@@ -584,7 +594,7 @@ unsafe extern "C" {
     ///
     /// `area` is valid for reads and writes of `area_len` elements, is aligned
     /// and not null, and nothing else uses them during the call.
-    pub unsafe fn mtr_write_block(
+    pub unsafe fn mtr_by_value_write_block(
         area: *mut u8,
         area_len: usize,
         block: u32,
@@ -606,5 +616,13 @@ unsafe extern "C" {
     ///
     /// `area` is valid for reads of `area_len` elements, is aligned and not
     /// null, and nothing else uses them during the call.
-    pub unsafe fn mtr_read_block(area: *const u8, area_len: usize, block: u32) -> Found;
+    pub unsafe fn mtr_by_value_read_block(area: *const u8, area_len: usize, block: u32) -> Found;
+
+    /// The library's version as one number: 10000 times the major, 100 times
+    /// the minor, and the patch.
+    ///
+    /// Refuses nothing.
+    ///
+    /// It takes no state, so that any is unchanged.
+    pub safe fn mtr_version() -> u32;
 }

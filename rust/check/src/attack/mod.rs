@@ -30,22 +30,22 @@ pub const ROUNDS: u64 = 1_000_000 / CALLS;
 
 /// The exported functions, and the answers that each one can give.
 pub const FUNCTIONS: [(&str, &[u32]); 16] = [
-    ("mtr_start", &[0, 1]),
-    ("mtr_open", &[0, 2, 3, 4, 5, 16]),
-    ("mtr_close", &[0, 2, 6, 16]),
-    ("mtr_admit", &[0, 2, 4, 5, 7, 8, 16]),
-    ("mtr_remove", &[0, 7, 9, 16]),
-    ("mtr_wake", &[0, 7, 10, 16]),
-    ("mtr_dispatch", &[0, 12, 15, 16]),
-    ("mtr_report", &[0, 11, 13, 14, 16]),
-    ("mtr_sound", &[0, 1]),
-    ("mtr_priority", &[0, 4]),
-    ("mtr_subtree", &[0, 2, 16]),
-    ("mtr_lag", &[0, 7, 16]),
-    ("mtr_share", &[0, 7, 16]),
-    ("mtr_roster", &[0, 16, 17]),
-    ("mtr_write_block", &[0, 17, 19]),
-    ("mtr_read_block", &[0, 17, 18, 19]),
+    ("mtr_by_value_start", &[0, 1]),
+    ("mtr_by_value_open", &[0, 2, 3, 4, 5, 16]),
+    ("mtr_by_value_close", &[0, 2, 6, 16]),
+    ("mtr_by_value_admit", &[0, 2, 4, 5, 7, 8, 16]),
+    ("mtr_by_value_remove", &[0, 7, 9, 16]),
+    ("mtr_by_value_wake", &[0, 7, 10, 16]),
+    ("mtr_by_value_dispatch", &[0, 12, 15, 16]),
+    ("mtr_by_value_report", &[0, 11, 13, 14, 16]),
+    ("mtr_by_value_sound", &[0, 1]),
+    ("mtr_by_value_priority", &[0, 4]),
+    ("mtr_by_value_subtree", &[0, 2, 16]),
+    ("mtr_by_value_lag", &[0, 7, 16]),
+    ("mtr_by_value_share", &[0, 7, 16]),
+    ("mtr_by_value_roster", &[0, 16, 17]),
+    ("mtr_by_value_write_block", &[0, 17, 19]),
+    ("mtr_by_value_read_block", &[0, 17, 18, 19]),
 ];
 
 /// What a state was made of.
@@ -128,13 +128,13 @@ impl Attack {
             0 => self.start(r, state),
             1..=7 => self.step(r, function, state),
             8 => {
-                let found = raw::mtr_sound(*state);
+                let found = raw::mtr_by_value_sound(*state);
                 self.same(function, "", found, to_model(state).sound() as u32);
                 found
             }
             9 => {
                 let number = argument(r, 10);
-                let found = raw::mtr_priority(number);
+                let found = raw::mtr_by_value_priority(number);
                 let (answer, reservation) = split(priority(number));
                 let wanted = Mapped {
                     answer,
@@ -145,7 +145,7 @@ impl Attack {
             }
             10 => {
                 let group = argument(r, 15);
-                let found = raw::mtr_subtree(*state, group);
+                let found = raw::mtr_by_value_subtree(*state, group);
                 let (answer, thousandths) = split(subtree(&to_model(state), group));
                 let wanted = Total {
                     answer,
@@ -156,7 +156,7 @@ impl Attack {
             }
             11 => {
                 let number = argument(r, 63);
-                let found = raw::mtr_lag(*state, number);
+                let found = raw::mtr_by_value_lag(*state, number);
                 let (answer, lag) = split(to_model(state).lag(number));
                 self.same(
                     function,
@@ -168,7 +168,7 @@ impl Attack {
             }
             12 => {
                 let number = argument(r, 63);
-                let found = raw::mtr_share(*state, number);
+                let found = raw::mtr_by_value_share(*state, number);
                 let (answer, share) = split(to_model(state).share(number));
                 let wanted = ShareLine {
                     answer,
@@ -185,7 +185,7 @@ impl Attack {
 
     fn start(&mut self, r: &mut Rng, state: &mut raw::Scheduler) -> u32 {
         let (m, p) = (argument(r, 1_000), argument(r, 1_000_000));
-        let found = raw::mtr_start(m, p);
+        let found = raw::mtr_by_value_start(m, p);
         let (answer, after) = match Scheduler::start(m, p) {
             Ok(after) => (0, after),
             Err(refusal) => (refusal, ZEROS),
@@ -234,7 +234,7 @@ impl Attack {
         let table = self.page.lend(side, contents, r.bits() as u8);
         self.lent(side, length);
         // SAFETY: the page holds the table, whose start is aligned on both sides: 24 bytes each.
-        let found = unsafe { raw::mtr_roster(*state, table.cast(), length) };
+        let found = unsafe { raw::mtr_by_value_roster(*state, table.cast(), length) };
 
         let mut wanted: Vec<_> = contents.chunks_exact(ENTRY).map(entry).collect();
         let answer = s.roster(&mut wanted);
@@ -274,7 +274,7 @@ impl Attack {
         let area = self.page.lend(side, contents, r.bits() as u8);
         self.lent(side, length);
         // SAFETY: the page holds the area.
-        let found = unsafe { raw::mtr_write_block(area, length, number, list, count) };
+        let found = unsafe { raw::mtr_by_value_write_block(area, length, number, list, count) };
 
         // Of a count above 31 nothing but the count matters.
         let mut records: Vec<_> = list.records.iter().map(to_model_record).collect();
@@ -307,7 +307,7 @@ impl Attack {
         self.lent(side, length);
         let found = self.page.read_only(|| {
             // SAFETY: the page holds the area.
-            unsafe { raw::mtr_read_block(area, length, number) }
+            unsafe { raw::mtr_by_value_read_block(area, length, number) }
         });
 
         let mut wanted = Found::default();
