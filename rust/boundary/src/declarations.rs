@@ -2,7 +2,7 @@
 
 use crate::comment::refusal;
 use crate::interface::{Family, Form, Function, Interface, Pass, Struct};
-use crate::{wrapped, COMMAND};
+use crate::{words, wrapped, ANSWER, COMMAND};
 
 const WIDTH: usize = 80;
 /// The longest line of code.
@@ -13,6 +13,9 @@ pub fn print(interface: &Interface) -> String {
     let mut out = HEAD.replace("COMMAND", COMMAND);
     for family in &interface.families {
         out += &constants(family);
+    }
+    for family in interface.families.iter().filter(|f| f.c == ANSWER) {
+        out += &answer_text(family);
     }
     for s in &interface.structs {
         out += &structure(interface, s);
@@ -72,6 +75,22 @@ fn constants(family: &Family) -> String {
         out += &format!("pub const {name}: {} = {value};\n", family.of);
     }
     format!("// {}\n\n{out}\n", family.doc)
+}
+
+/// The function that puts an answer into words.
+fn answer_text(family: &Family) -> String {
+    let mut out = docs("", "What an answer says, in words.");
+    out += "pub const fn answer_text(answer: u32) -> &'static str {\n    match answer {\n";
+    for (name, _, doc) in &family.names {
+        let text = words(doc);
+        let line = format!("        {name} => {text:?},\n");
+        // rustfmt gives a long one a block of its own.
+        out += &match line.len() > CODE + 1 {
+            true => format!("        {name} => {{\n            {text:?}\n        }}\n"),
+            false => line,
+        };
+    }
+    out + "        _ => \"no listed answer\",\n    }\n}\n\n"
 }
 
 fn structure(interface: &Interface, s: &Struct) -> String {
@@ -173,8 +192,13 @@ fn function(f: &Function) -> String {
     };
     let head = format!("    pub {safe} fn {}", f.name);
     let line = format!("{head}({}){result};", parameters.join(", "));
-    if line.len() <= CODE {
+    if line.len() < CODE {
         return out + &line + "\n";
+    }
+    // So rustfmt has a line that ends in the last column.
+    if line.len() == CODE {
+        let line = format!("{head}({})", parameters.join(", "));
+        return out + &line + &format!("\n       {result};\n");
     }
     out += &format!("{head}(\n");
     for parameter in parameters {

@@ -17,6 +17,8 @@ pub enum Value {
         of: &'static str,
         field: &'static str,
     },
+    /// The version as one number: 10000 × major + 100 × minor + patch.
+    Version,
 }
 
 /// A constant's name without the prefix, its value, and what it is.
@@ -28,8 +30,8 @@ pub struct Family {
     pub doc: &'static str,
     /// Type in Rust.
     pub of: &'static str,
-    /// An enum in C; otherwise macros.
-    pub choice: bool,
+    /// The enum in C; macros if it has no name.
+    pub c: &'static str,
     pub names: &'static [Name],
 }
 
@@ -42,6 +44,13 @@ pub const SECTIONS: [(&str, &str); 4] = [
     ("version", "Version"),
 ];
 
+/// The start of an exported function's name whose state goes by value. In C
+/// the function without `by_value_` takes its place.
+pub const BY_VALUE: &str = "mtr_by_value_";
+
+/// Parameters that are named numbers, and the type of these in C.
+pub const TYPED: [(&str, &str); 1] = [("reason", "mtr_reason")];
+
 /// The prefix of an answer other than 0.
 pub const REFUSED: &str = "REFUSED_";
 
@@ -49,6 +58,8 @@ const SCHEDULER: &str = "crates/scheduler/src/lib.rt";
 const RUN: &str = "crates/scheduler/src/threads.rt";
 const PRIORITY: &str = "crates/scheduler/src/priority.rt";
 const REPLAY: &str = "crates/replay/src/lib.rt";
+/// Where the version stands.
+pub const VERSION: &str = "crates/abi/src/version.rt";
 
 const fn constant(file: &'static str, name: &'static str) -> Value {
     Value::Constant { file, name }
@@ -58,11 +69,26 @@ const fn number(value: u64) -> Value {
     Value::Number(value)
 }
 
-pub const FAMILIES: [Family; 9] = [
+pub const FAMILIES: [Family; 10] = [
+    Family {
+        doc: "The version; mtr_version answers that of the library.",
+        of: "u32",
+        c: "",
+        names: &[
+            ("VERSION_MAJOR", constant(VERSION, "MAJOR"), "Major."),
+            ("VERSION_MINOR", constant(VERSION, "MINOR"), "Minor."),
+            ("VERSION_PATCH", constant(VERSION, "PATCH"), "Patch."),
+            (
+                "VERSION",
+                Value::Version,
+                "One number: 10000 times the major, 100 times the minor, and the patch.",
+            ),
+        ],
+    },
     Family {
         doc: "Numbers of threads and groups, and the parts of a block.",
         of: "usize",
-        choice: false,
+        c: "",
         names: &[
             (
                 "THREADS",
@@ -92,7 +118,7 @@ pub const FAMILIES: [Family; 9] = [
     Family {
         doc: "Limits and defaults.",
         of: "u32",
-        choice: false,
+        c: "",
         names: &[
             (
                 "NO_THREAD",
@@ -129,7 +155,7 @@ pub const FAMILIES: [Family; 9] = [
     Family {
         doc: "Limits of the meter and of priorities.",
         of: "u64",
-        choice: false,
+        c: "",
         names: &[
             (
                 "METER_LIMIT",
@@ -156,7 +182,7 @@ pub const FAMILIES: [Family; 9] = [
     Family {
         doc: "Answers: 0, or why a call is refused.",
         of: "u32",
-        choice: true,
+        c: "mtr_answer",
         names: &[
             ("ACCEPTED", number(0), "The call is accepted."),
             (
@@ -248,7 +274,7 @@ pub const FAMILIES: [Family; 9] = [
     Family {
         doc: "Reasons of a report.",
         of: "u64",
-        choice: true,
+        c: "mtr_reason",
         names: &[
             (
                 "REASON_TICK",
@@ -275,7 +301,7 @@ pub const FAMILIES: [Family; 9] = [
     Family {
         doc: "Status of a thread's entry in the state.",
         of: "u8",
-        choice: true,
+        c: "mtr_status",
         names: &[
             ("STATUS_FREE", number(0), "The number is not admitted."),
             (
@@ -293,17 +319,17 @@ pub const FAMILIES: [Family; 9] = [
     Family {
         doc: "State of a thread in the roster.",
         of: "u32",
-        choice: true,
+        c: "mtr_roster_state",
         names: &[
-            ("STATE_RUNNABLE", number(0), "Runnable."),
-            ("STATE_BLOCKED", number(1), "Blocked."),
-            ("STATE_RUNNING", number(2), "Running."),
+            ("ROSTER_RUNNABLE", number(0), "Runnable."),
+            ("ROSTER_BLOCKED", number(1), "Blocked."),
+            ("ROSTER_RUNNING", number(2), "Running."),
         ],
     },
     Family {
         doc: "Whether a group's entry in the state is open.",
         of: "u8",
-        choice: true,
+        c: "mtr_opened",
         names: &[
             ("GROUP_CLOSED", number(0), "Closed."),
             ("GROUP_OPEN", number(1), "Open."),
@@ -312,7 +338,7 @@ pub const FAMILIES: [Family; 9] = [
     Family {
         doc: "Kinds of records, and the fields that each uses; the others are 0.",
         of: "u8",
-        choice: true,
+        c: "mtr_kind",
         names: &[
             (
                 "KIND_OPEN",

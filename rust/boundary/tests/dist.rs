@@ -1,35 +1,12 @@
 //! `dist.sh`: the folder that it fills is whole, links from C, C++ and Rust,
 //! and a failure leaves everything as it was.
 
+mod common;
+
+use common::{folder, printed, run, said};
 use std::fs;
 use std::path::{Path, PathBuf};
 use std::process::{Command, Output};
-
-/// A folder of this test's own.
-fn folder(name: &str) -> PathBuf {
-    let folder = Path::new(env!("CARGO_TARGET_TMPDIR")).join(name);
-    let _ = fs::remove_dir_all(&folder);
-    fs::create_dir_all(&folder).unwrap();
-    folder
-}
-
-fn run(command: &mut Command) -> Output {
-    command
-        .output()
-        .unwrap_or_else(|e| panic!("{command:?}: {e}"))
-}
-
-fn said(output: &Output) -> String {
-    let both = [&output.stdout[..], &output.stderr[..]].concat();
-    String::from_utf8_lossy(&both).into_owned()
-}
-
-/// What a command that must succeed prints.
-fn printed(command: &mut Command) -> String {
-    let output = run(command);
-    assert!(output.status.success(), "{command:?}: {}", said(&output));
-    said(&output)
-}
 
 /// Runs the script of a repository on what is built there.
 fn dist(root: &Path, folder: &Path) -> Output {
@@ -133,15 +110,23 @@ fn contents() {
 const PROGRAM: &str = r#"#include <mtr.h>
 #include <stdio.h>
 int main(void) {
-    mtr_scheduler state = mtr_by_value_start(MTR_DEFAULT_THOUSANDTH, MTR_DEFAULT_INTERVAL).state;
-    state = mtr_by_value_admit(state, 5, 0, 500).state;
-    mtr_reply full = mtr_by_value_admit(state, 7, 0, 501);
-    mtr_reply run = mtr_by_value_dispatch(state);
+    static mtr_scheduler state;
+    mtr_run run;
+    if (mtr_start(&state, MTR_DEFAULT_THOUSANDTH, MTR_DEFAULT_INTERVAL) != MTR_ACCEPTED)
+        return 1;
+    if (mtr_admit(&state, 5, 0, 500) != MTR_ACCEPTED)
+        return 2;
+    mtr_answer full = mtr_admit(&state, 7, 0, 501);
+    if (mtr_dispatch(&state, &run) != MTR_ACCEPTED)
+        return 3;
     mtr_records list = {{{MTR_KIND_DISPATCH, 0, 0, 0, 0, 0}}};
     uint8_t area[MTR_BLOCK_BYTES];
-    uint32_t written = mtr_by_value_write_block(area, sizeof area, 0, list, 1);
-    printf("%u %u %u %u %u\n", full.answer, run.thread, run.slice, written, mtr_by_value_read_block(area, sizeof area, 0).count);
-    return full.answer != MTR_REFUSED_NO_ROOM;
+    size_t count = 0;
+    if (mtr_write_block(area, sizeof area, 0, &list, 1) != MTR_ACCEPTED)
+        return 4;
+    mtr_answer read = mtr_read_block(area, sizeof area, 0, &list, &count);
+    printf("%u %u %u %u %u\n", (unsigned)full, run.thread, run.slice, (unsigned)read, (unsigned)count);
+    return full != MTR_REFUSED_NO_ROOM;
 }
 "#;
 
@@ -214,7 +199,7 @@ fn main() -> Result<(), Refusal> {
     let mut build = Command::new(cargo);
     build.args(["run", "--quiet", "--offline", "-j1"]);
     build.env("CARGO_TARGET_DIR", project.join("target"));
-    let wanted = "Err(NoRoom) Run { thread: 5, slice: 20000, passed: 0 }\n";
+    let wanted = "Err(NoRoom) Run { thread: 5, slice: 20000, before: 0 }\n";
     assert_eq!(printed(build.current_dir(&project)), wanted);
 }
 

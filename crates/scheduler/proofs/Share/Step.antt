@@ -24,7 +24,8 @@ use Rattle.scheduler.specs.Rule.{step}
 use Rattle.scheduler.specs.Stretch.{keeps, accepted, ticksOf, keepsRunnable}
 use Rattle.scheduler.proofs.Facts.{Facts, facts, in-threads, member-admitted, below-quantum, fits, take-rear, take-off, room, listed-join, thread-other, thread-same, unlisted}
 use Rattle.scheduler.proofs.Share.Gauge.{gauge, gauge-join, gauge-leave, gauge-run, gauge-stay, gauge-off, gauge-rear, gauge-self, gauge-turn, quiet-step, run-step, turn-step}
-use Rattle.scheduler.proofs.Passed.{passes, not-used-up, admit-passed, remove-passed, wake-passed, dispatch-passed, report-passed}
+use Rattle.scheduler.proofs.Steps.{allotment-other, charged-left, charged-full, woken-allotment}
+use Rattle.scheduler.proofs.Passed.{passes, admit-passed, remove-passed, wake-passed, dispatch-passed, report-passed}
 
 -- the potential of x, with the threads that sel picks
 unfoldable pub weight : (ℕ → Bool) → ℕ → Scheduler → ℕ
@@ -49,42 +50,6 @@ quiet-potential f h sel x s s′ w k =
 group-quiet : (sel : ℕ → Bool) (x : ℕ) (s : Scheduler) (n : ℕ) (g : Group) → Quiet sel x s (withGroup s n g) 0
 unfolding withGroup weight listed allotmentAt
 group-quiet sel x s n g = record { same-settings = refl; same-allotment = refl; lighter = omega arith }
-
--- allotments after a change of one thread
-allotment-other : (s : Scheduler) (n : ℕ) (t : Thread) (j : ℕ) → (j ≡ n → ⊥) → allotmentAt (withThread s n t) j ≡ allotmentAt s j
-unfolding allotmentAt
-allotment-other s n t j a = ap (λ (t : Thread). t .allotment) (thread-other s n t j a)
-
-allotment-same : (s : Scheduler) (n : ℕ) (t : Thread) → n < length (s .threads) → allotmentAt (withThread s n t) n ≡ t .allotment
-unfolding allotmentAt
-allotment-same s n t h = ap (λ (t : Thread). t .allotment) (thread-same s n t h)
-
-charged-allotment : (s : Scheduler) (r reason used : ℕ) → r < length (s .threads)
-    → allotmentAt (withThread s r (chargedThread s reason used (threadAt s r))) r
-    ≡ cond (renewed reason used (threadAt s r)) (reservationAt s r * s .settings .thousandth) (allotmentAt s r - used)
-unfolding chargedThread reservationAt allotmentAt
-charged-allotment s r reason used h = allotment-same s r (chargedThread s reason used (threadAt s r)) h
-
--- the charged thread: what is left, or a full allotment
-pub charged-left : (s : Scheduler) (r reason used : ℕ) → r < length (s .threads) → renewed reason used (threadAt s r) ≡ false
-    → allotmentAt (withThread s r (chargedThread s reason used (threadAt s r))) r + used ≡ allotmentAt s r
-unfolding chargedThread allotmentAt
-charged-left s r reason used h e =
-    let q = charged-allotment s r reason used h ∙ ap (λ (b : Bool). cond b (reservationAt s r * s .settings .thousandth) (allotmentAt s r - used)) e in
-    omega (arith, q, not-used-up reason used (threadAt s r) e)
-
-charged-full : (s : Scheduler) (r reason used : ℕ) → r < length (s .threads) → renewed reason used (threadAt s r) ≡ true
-    → allotmentAt (withThread s r (chargedThread s reason used (threadAt s r))) r ≡ reservationAt s r * s .settings .thousandth
-charged-full s r reason used h e =
-    charged-allotment s r reason used h ∙ ap (λ (b : Bool). cond b (reservationAt s r * s .settings .thousandth) (allotmentAt s r - used)) e
-
-pub woken-allotment : (s : Scheduler) → Facts s → (n : ℕ) → T (admittedAt s n) → (j : ℕ) → allotmentAt (withThread s n (wokenThread s (threadAt s n))) j ≡ allotmentAt s j
-unfolding allotmentAt wokenThread
-woken-allotment s k n a j =
-    by (λ b. eqb j n ≡ b → allotmentAt (withThread s n (wokenThread s (threadAt s n))) j ≡ allotmentAt s j) (eqb j n)
-    (λ e _. rw (eqb-true j n e) (allotment-same s n (wokenThread s (threadAt s n)) (in-threads s k n a)))
-    (λ e _. allotment-other s n (wokenThread s (threadAt s n)) j (eqb-false j n e))
-    refl
 
 wake-quiet : (sel : ℕ → Bool) (x : ℕ) (s : Scheduler) → Facts s → (n : ℕ) → T (admittedAt s n) → Quiet sel x s (effect (wake n) s) 0
 unfolding effect weight listed withThread withList toRear

@@ -13,7 +13,7 @@ use Rattle.scheduler.specs.Refusals.{startRefusal}
 use Rattle.scheduler.specs.Effects.{started, unstarted}
 use Rattle.scheduler.specs.Rule.{refuse, startReply}
 use Rattle.scheduler.specs.Answers.{startAnswered}
-use Rattle.scheduler.proofs.Preserved.{start-passed}
+use Rattle.scheduler.proofs.Passed.{start-passed}
 use Rattle.scheduler.proofs.threads.Replies.{answered}
 
 module _ (m p : ℕ) where

@@ -102,7 +102,8 @@ pub struct Section {
 pub struct Family {
     pub doc: &'static str,
     pub of: &'static str,
-    pub choice: bool,
+    /// The enum in C; macros if it has no name.
+    pub c: &'static str,
     pub names: Vec<(&'static str, u64, &'static str)>,
 }
 

@@ -46,7 +46,7 @@ pub fn resolve(sources: &Sources) -> Result<Interface, Error> {
         work.found.families.push(Family {
             doc: family.doc,
             of: family.of,
-            choice: family.choice,
+            c: family.c,
             names: names?,
         });
     }

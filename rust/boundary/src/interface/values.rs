@@ -2,7 +2,7 @@
 
 use super::resolve::Work;
 use super::Form;
-use crate::names::Value;
+use crate::names::{Value, VERSION};
 use crate::Error;
 
 impl Work<'_> {
@@ -22,6 +22,17 @@ impl Work<'_> {
                         Err(Error::at(own, 1, text))
                     }
                 }
+            }
+            Value::Version => {
+                let mut value = 0;
+                for part in ["MAJOR", "MINOR", "PATCH"] {
+                    let part = Value::Constant {
+                        file: VERSION,
+                        name: part,
+                    };
+                    value = 100 * value + self.value(name, part)?;
+                }
+                Ok(value)
             }
             Value::Length { of, field } => {
                 let fields = self
