@@ -70,7 +70,7 @@ pub const NOT_STARTED: &str = "REFUSED_NOT_STARTED";
 
 const SCHEDULER: &str = "crates/scheduler/src/lib.rt";
 const RUN: &str = "crates/scheduler/src/threads.rt";
-const PRIORITY: &str = "crates/scheduler/src/priority.rt";
+const PRIORITY: &str = "crates/priority/src/lib.rt";
 const REPLAY: &str = "crates/replay/src/lib.rt";
 /// Where the version stands.
 pub const VERSION: &str = "crates/abi/src/version.rt";
