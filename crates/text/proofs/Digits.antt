@@ -1,6 +1,6 @@
--- Laws of the digits of a number, each by induction on n / 10: a number below 10 is one digit, and any other is the digits of n / 10 and one more.
--- What was written is read back as the number (`round-trip`); no digit in front is zero (`leading`); a number below 2 ^ 64 has at most 20
--- digits (`digits-most`). Assumes nothing.
+-- Laws of the digits of a number, each by induction on n / 10: a number below 10 is one digit, and any other is the digits of n / 10 and
+-- one more. What was written is read back as the number (`round-trip`); no digit in front is zero (`leading`); a number below 2 ^ 64 has at
+-- most 20 digits (`digits-most`). Assumes nothing.
 use mathlib.Core.Path.{_≡_, refl, ap, _∙_}
 use mathlib.Core.Bool.{Bool, true, false, _&&_}
 use mathlib.Core.List.{List, [], _∷_, _++_}
@@ -28,7 +28,10 @@ enough (suc k) zero true n e h i = refl
 enough (suc k) zero false n e h i = absurd (omega (arith, ltb-false n 10 e))
 enough (suc k) (suc j) true n e h i = refl
 enough (suc k) (suc j) false n e h i =
-    ap (λ l. l ++ ((48 + n % 10) ∷ [])) (enough k j (ltb (n / 10) 10) (n / 10) refl (omega (arith, ltb-false n 10 e)) (omega (arith, ltb-false n 10 e)))
+    ap (λ l. l ++ ((48 + n % 10) ∷ [])) (enough k j (ltb (n / 10) 10) (n / 10) refl (omega (arith, ltb-false n 10 e)) (omega (
+      arith,
+      ltb-false n 10 e,
+    )))
 
 pub digits-small : (n : ℕ) → n < 10 → digits n ≡ (48 + n) ∷ []
 unfolding digits digitsTo
@@ -46,7 +49,8 @@ digits-more (suc m) h =
 tens : (P : ℕ → Type 0) → ((n : ℕ) → n < 10 → P n) → ((n : ℕ) → 10 ≤ n → P (n / 10) → P n) → (k n : ℕ) → n < k → P n
 tens P small more zero n h = absurd (omega arith)
 tens P small more (suc k) n h =
-    either (ltb n 10) (λ e. small n (ltb-true n 10 e)) (λ e. more n (ltb-false n 10 e) (tens P small more k (n / 10) (omega (arith, ltb-false n 10 e))))
+    either (ltb n 10) (λ e. small n (ltb-true n 10 e))
+    (λ e. more n (ltb-false n 10 e) (tens P small more k (n / 10) (omega (arith, ltb-false n 10 e))))
 
 by-tens : (P : ℕ → Type 0) → ((n : ℕ) → n < 10 → P n) → ((n : ℕ) → 10 ≤ n → P (n / 10) → P n) → (n : ℕ) → P n
 by-tens P small more n = tens P small more (suc n) n (omega arith)
@@ -58,7 +62,8 @@ pub more-length : (n : ℕ) → 10 ≤ n → length (digits n) ≡ length (digit
 more-length n h = ap length (digits-more n h) ∙ length-append (digits (n / 10)) ((48 + n % 10) ∷ [])
 
 pub digits-some : (n : ℕ) → 0 < length (digits n)
-digits-some n = either (ltb n 10) (λ e. omega (arith, small-length n (ltb-true n 10 e))) (λ e. omega (arith, more-length n (ltb-false n 10 e)))
+digits-some n =
+    either (ltb n 10) (λ e. omega (arith, small-length n (ltb-true n 10 e))) (λ e. omega (arith, more-length n (ltb-false n 10 e)))
 
 -- a number below 10 ^ (k + 1) has at most k + 1 digits, and one from 10 ^ k on more than k
 pub digits-within : (n k : ℕ) → n < 10 ^ suc k → length (digits n) ≤ suc k
@@ -67,7 +72,8 @@ digits-within = by-tens (λ n. (k : ℕ) → n < 10 ^ suc k → length (digits n
     small : (n : ℕ) → n < 10 → (k : ℕ) → n < 10 ^ suc k → length (digits n) ≤ suc k
     small n h k b = omega (arith, small-length n h)
 
-    more : (n : ℕ) → 10 ≤ n → ((k : ℕ) → n / 10 < 10 ^ suc k → length (digits (n / 10)) ≤ suc k) → (k : ℕ) → n < 10 ^ suc k → length (digits n) ≤ suc k
+    more : (n : ℕ) → 10 ≤ n → ((k : ℕ) → n / 10 < 10 ^ suc k → length (digits (n / 10)) ≤ suc k) → (k : ℕ) → n < 10 ^ suc k
+        → length (digits n) ≤ suc k
     more n h ih zero b = absurd (omega (arith, pow-suc 10 0))
     more n h ih (suc k) b = omega (arith, more-length n h, ih k (omega (arith, pow-suc 10 (suc k))))
 

@@ -1,6 +1,6 @@
--- Laws of a line. The last of its numbers is followed by a newline and each other by a space: `ended b` is numbers with the byte b after the last,
--- so a loop that goes backwards has `ended 32` of the first i numbers left to write. A line of five numbers below 2 ^ 64 has at most 105 bytes.
--- Assumes nothing.
+-- Laws of a line. The last of its numbers is followed by a newline and each other by a space: `ended b` is numbers with the byte b after
+-- the last, so a loop that goes backwards has `ended 32` of the first i numbers left to write. A line of five numbers below 2 ^ 64 has at
+-- most 105 bytes. Assumes nothing.
 use mathlib.Core.Path.{_≡_, refl, sym, ap, _∙_, subst}
 use mathlib.Core.List.{List, [], _∷_, _++_, append-assoc}
 use mathlib.Core.Bool.{cond}
@@ -36,7 +36,8 @@ unfolding ended
 ended-length b [] = refl
 ended-length b (n ∷ []) = length-append (digits n) (b ∷ []) ∙ sym (length-append (digits n) (32 ∷ []))
 ended-length b (n ∷ m ∷ l) =
-    length-append (digits n) (32 ∷ ended b (m ∷ l)) ∙ ap (λ k. length (digits n) + suc k) (ended-length b (m ∷ l)) ∙ sym (length-append (digits n) (32 ∷ fields (m ∷ l)))
+    length-append (digits n) (32 ∷ ended b (m ∷ l)) ∙ ap (λ k. length (digits n) + suc k) (ended-length b (m ∷ l))
+    ∙ sym (length-append (digits n) (32 ∷ fields (m ∷ l)))
 
 line-length : (l : List ℕ) → 0 < length l → length (lineOf l) ≡ length (fields l)
 line-length l h = ap length (line-ended l h) ∙ ended-length 10 l
@@ -53,7 +54,8 @@ ended-more b (m ∷ []) n = simp append-assoc
 ended-more b (m ∷ o ∷ k) n = ap (λ r. digits m ++ (32 ∷ r)) (ended-more b (o ∷ k) n) ∙ simp append-assoc
 
 -- the first i numbers: all but the last of them, then that one and b
-pub ended-last : (b : ℕ) (l : List ℕ) (i : ℕ) → 0 < i → i ≤ length l → ended b (take i l) ≡ (fields (take (i - 1) l) ++ digits (getD l (i - 1) 0)) ++ (b ∷ [])
+pub ended-last : (b : ℕ) (l : List ℕ) (i : ℕ) → 0 < i → i ≤ length l
+    → ended b (take i l) ≡ (fields (take (i - 1) l) ++ digits (getD l (i - 1) 0)) ++ (b ∷ [])
 ended-last b l i p h =
     let e : i ≡ suc (i - 1) = omega arith in
     ap (λ k. ended b (take k l)) e ∙ ap (ended b) (take-suc l (i - 1) 0 (omega arith)) ∙ ended-more b (take (i - 1) l) (getD l (i - 1) 0)
@@ -63,19 +65,24 @@ pub record Line (o : List ℕ) (end : ℕ) (l area : List ℕ) (i at b : ℕ) : 
   pub count : i ≤ length l
   pub left : Left o (end - length (lineOf l)) (lineOf l) area at (ended b (take i l))
 
-pub line-all : (o : List ℕ) (end : ℕ) (l : List ℕ) → 0 < length l → length (lineOf l) ≤ end → end ≤ length o → Line o end l o (length l) end 10
+pub line-all : (o : List ℕ) (end : ℕ) (l : List ℕ) → 0 < length l → length (lineOf l) ≤ end → end ≤ length o
+    → Line o end l o (length l) end 10
 line-all o end l h k m =
     record {
       count = omega arith;
-      left = subst (Left o (end - length (lineOf l)) (lineOf l) o end) (line-ended l h ∙ ap (ended 10) (sym (take-length l))) (left-all o end (lineOf l) k m);
+      left =
+          subst (Left o (end - length (lineOf l)) (lineOf l) o end) (line-ended l h
+          ∙ ap (ended 10) (sym (take-length l))) (left-all o end (lineOf l) k m);
     }
 
 -- a number and the byte after it have their place before `at`
-pub line-room : (o : List ℕ) (end : ℕ) (l area : List ℕ) (i at b : ℕ) → Line o end l area i at b → 0 < i → length (digits (getD l (i - 1) 0)) + 1 ≤ at
+pub line-room : (o : List ℕ) (end : ℕ) (l area : List ℕ) (i at b : ℕ) → Line o end l area i at b → 0 < i
+    → length (digits (getD l (i - 1) 0)) + 1 ≤ at
 line-room o end l area i at b w p =
     let z : List ℕ = fields (take (i - 1) l) in
     let d : List ℕ = digits (getD l (i - 1) 0) in
-    let e : length (ended b (take i l)) ≡ length (z ++ d) + 1 = ap length (ended-last b l i p (w .count)) ∙ length-append (z ++ d) (b ∷ []) in
+    let e : length (ended b (take i l)) ≡ length (z ++ d) + 1 =
+    ap length (ended-last b l i p (w .count)) ∙ length-append (z ++ d) (b ∷ []) in
     omega (arith, length-append z d, w .left .ends)
 
 -- they are written
@@ -96,10 +103,12 @@ line-less o end l area i at b area′ at′ w p f t =
           refl f (t ∙ ap (λ k. over (set area (at - 1) b) k d) (sym f));
     }
 
-pub line-none : (o : List ℕ) (end : ℕ) (l area : List ℕ) (i at b : ℕ) → Line o end l area i at b → i ≡ 0 → area ≡ over o (end - length (lineOf l)) (lineOf l)
+pub line-none : (o : List ℕ) (end : ℕ) (l area : List ℕ) (i at b : ℕ) → Line o end l area i at b → i ≡ 0
+    → area ≡ over o (end - length (lineOf l)) (lineOf l)
 unfolding ended
 line-none o end l area i at b w e =
-    left-none o (end - length (lineOf l)) (lineOf l) area at (subst (λ k. Left o (end - length (lineOf l)) (lineOf l) area at (ended b (take k l))) e (w .left))
+    left-none o (end - length (lineOf l)) (lineOf l) area
+    at (subst (λ k. Left o (end - length (lineOf l)) (lineOf l) area at (ended b (take k l))) e (w .left))
 
 -- the first i numbers take `size` bytes of at most `most`
 pub record Sized (l : List ℕ) (most size i : ℕ) : Type 0 where
@@ -110,10 +119,12 @@ pub record Sized (l : List ℕ) (most size i : ℕ) : Type 0 where
 pub sized-none : (l : List ℕ) (most : ℕ) → Sized l most 0 0
 sized-none l most = record { within = omega arith; less = omega arith; rest = omega arith }
 
-next-field : (l : List ℕ) (i : ℕ) → i < length l → length (fields (drop i l)) ≡ length (digits (getD l i 0)) + 1 + length (fields (drop (suc i) l))
+next-field : (l : List ℕ) (i : ℕ) → i < length l
+    → length (fields (drop i l)) ≡ length (digits (getD l i 0)) + 1 + length (fields (drop (suc i) l))
 next-field l i h = ap (λ r. length (fields r)) (drop-cons l i 0 h) ∙ fields-length (getD l i 0) (drop (suc i) l)
 
-pub sized-more : (l : List ℕ) (most size i w : ℕ) → Sized l most size i → i < length l → w ≡ length (digits (getD l i 0)) + 1 → w ≤ most - size → Sized l most (size + w) (i + 1)
+pub sized-more : (l : List ℕ) (most size i w : ℕ) → Sized l most size i → i < length l → w ≡ length (digits (getD l i 0)) + 1
+    → w ≤ most - size → Sized l most (size + w) (i + 1)
 sized-more l most size i w s h e b =
     record {
       within = omega arith;
@@ -121,12 +132,14 @@ sized-more l most size i w s h e b =
       rest = rw (add-one i) (omega (arith, s .rest, next-field l i h));
     }
 
-pub sized-over : (l : List ℕ) (most size i w : ℕ) → Sized l most size i → i < length l → w ≡ length (digits (getD l i 0)) + 1 → most - size < w
+pub sized-over : (l : List ℕ) (most size i w : ℕ) → Sized l most size i → i < length l → w ≡ length (digits (getD l i 0)) + 1
+    → most - size < w
     → 0 ≡ cond (leb (length (lineOf l)) most) (length (lineOf l)) 0
 sized-over l most size i w s h e b =
     simp (lt-leb (length (lineOf l)) most (omega (arith, s .rest, s .less, next-field l i h, line-length l (omega arith))))
 
-pub sized-all : (l : List ℕ) (most size i : ℕ) → Sized l most size i → length l ≤ i → 0 < length l → size ≡ cond (leb (length (lineOf l)) most) (length (lineOf l)) 0
+pub sized-all : (l : List ℕ) (most size i : ℕ) → Sized l most size i → length l ≤ i → 0 < length l
+    → size ≡ cond (leb (length (lineOf l)) most) (length (lineOf l)) 0
 unfolding ended
 sized-all l most size i s h k =
     let e : i ≡ length l = omega (arith, s .within) in
@@ -146,13 +159,15 @@ line-some (n ∷ []) = omega (arith, length-append (digits n) (10 ∷ []))
 line-some (n ∷ m ∷ l) = omega (arith, length-append (digits n) (32 ∷ lineOf (m ∷ l)))
 
 -- what an answer of `line_size` tells
-pub size-none : (l : List ℕ) (most size : ℕ) → size ≡ cond (leb (length (lineOf l)) most) (length (lineOf l)) 0 → size ≡ 0 → most < length (lineOf l)
+pub size-none : (l : List ℕ) (most size : ℕ) → size ≡ cond (leb (length (lineOf l)) most) (length (lineOf l)) 0 → size ≡ 0
+    → most < length (lineOf l)
 size-none l most size e z =
     either (leb (length (lineOf l)) most)
     (λ t. absurd (omega (arith, line-some l, e ∙ ap (λ b. cond b (length (lineOf l)) 0) t)))
     (λ t. leb-false (length (lineOf l)) most t)
 
-pub size-some : (l : List ℕ) (most size : ℕ) → size ≡ cond (leb (length (lineOf l)) most) (length (lineOf l)) 0 → (size ≡ 0 → ⊥) → (size ≡ length (lineOf l)) × (length (lineOf l) ≤ most)
+pub size-some : (l : List ℕ) (most size : ℕ) → size ≡ cond (leb (length (lineOf l)) most) (length (lineOf l)) 0 → (size ≡ 0 → ⊥)
+    → (size ≡ length (lineOf l)) × (length (lineOf l) ≤ most)
 size-some l most size e z =
     either (leb (length (lineOf l)) most)
     (λ t. (e ∙ ap (λ b. cond b (length (lineOf l)) 0) t, leb-true (length (lineOf l)) most t))
@@ -167,6 +182,8 @@ pub line-more : (n m : ℕ) (l : List ℕ) (k : ℕ) → n < 2 ^ 64 → length (
 unfolding lineOf
 line-more n m l k h b = omega (arith, digits-most n h, length-append (digits n) (32 ∷ lineOf (m ∷ l)))
 
-pub five-most : (a b c d e : ℕ) → a < 2 ^ 64 → b < 2 ^ 64 → c < 2 ^ 64 → d < 2 ^ 64 → e < 2 ^ 64 → length (lineOf (a ∷ b ∷ c ∷ d ∷ e ∷ [])) ≤ 105
+pub five-most : (a b c d e : ℕ) → a < 2 ^ 64 → b < 2 ^ 64 → c < 2 ^ 64 → d < 2 ^ 64 → e < 2 ^ 64
+    → length (lineOf (a ∷ b ∷ c ∷ d ∷ e ∷ [])) ≤ 105
 five-most a b c d e ha hb hc hd he =
-    line-more a b (c ∷ d ∷ e ∷ []) 84 ha (line-more b c (d ∷ e ∷ []) 63 hb (line-more c d (e ∷ []) 42 hc (line-more d e [] 21 hd (line-one e he))))
+    line-more a b (c ∷ d ∷ e ∷ []) 84 ha (line-more b c (d ∷ e ∷ []) 63 hb
+    (line-more c d (e ∷ []) 42 hc (line-more d e [] 21 hd (line-one e he))))
