@@ -1,5 +1,5 @@
+-- `mtr_by_value_priority` meets its contract: each case of the answer has its numbers.
 use mathlib.Core.Path.{sym, ap, _∙_}
-use Rattle.scheduler.specs.Answers.{mappedOf}
 use Rattle.abi.specs.Calls.{mappedOut}
 use borrow.Author.Needs.{needs}
 use Rattle.abi.proofs.calls.mtr_by_value_priority.Statement.{statement}
@@ -15,12 +15,12 @@ enum-known-found-2 : tie.Need-enum-known-found-2
 enum-known-found-2 c = search needs
 
 returns : tie.Need-returns
-unfolding mappedOf
-returns c = ap mappedOut (sym (ap mappedOf (c .before .found .given .1)) ∙ c .before .before .before .reservation-of .ensures)
+unfolding mappedOut
+returns c = ap mappedOut (sym (c .before .found .given .1) ∙ c .before .before .before .reservation-of .ensures)
 
 returns-2 : tie.Need-returns-2
-unfolding mappedOf
-returns-2 c = ap mappedOut (sym (ap mappedOf (c .before .found2 .given .1)) ∙ c .before .before .before .reservation-of .ensures)
+unfolding mappedOut
+returns-2 c = ap mappedOut (sym (c .before .found2 .given .1) ∙ c .before .before .before .reservation-of .ensures)
 
 pub mtr-by-value-priority-spec : {M : Type 1} → statement M
 mtr-by-value-priority-spec =

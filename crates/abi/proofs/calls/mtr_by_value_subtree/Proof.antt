@@ -1,5 +1,5 @@
+-- `mtr_by_value_subtree` meets its contract: each case of the answer has its numbers.
 use mathlib.Core.Path.{sym, ap, _∙_}
-use Rattle.scheduler.specs.Answers.{subtreeOf}
 use Rattle.abi.specs.Calls.{totalOut}
 use borrow.Author.Needs.{needs}
 use Rattle.abi.proofs.calls.mtr_by_value_subtree.Statement.{statement}
@@ -15,12 +15,12 @@ enum-known-found-2 : tie.Need-enum-known-found-2
 enum-known-found-2 c = search needs
 
 returns : tie.Need-returns
-unfolding subtreeOf
-returns c = ap totalOut (sym (ap subtreeOf (c .before .found .given .1)) ∙ c .before .before .before .subtree-total .ensures)
+unfolding totalOut
+returns c = ap totalOut (sym (c .before .found .given .1) ∙ c .before .before .before .subtree-total .ensures)
 
 returns-2 : tie.Need-returns-2
-unfolding subtreeOf
-returns-2 c = ap totalOut (sym (ap subtreeOf (c .before .found2 .given .1)) ∙ c .before .before .before .subtree-total .ensures)
+unfolding totalOut
+returns-2 c = ap totalOut (sym (c .before .found2 .given .1) ∙ c .before .before .before .subtree-total .ensures)
 
 pub mtr-by-value-subtree-spec : {M : Type 1} → statement M
 mtr-by-value-subtree-spec =
