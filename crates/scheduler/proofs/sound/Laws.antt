@@ -25,10 +25,6 @@ pub fails : (a b : Bool) → (T a → T b) → b ≡ false → false ≡ a
 fails true b f e = absurd (subst T e (f tt))
 fails false b f e = refl
 
-pub or-none : (b : Bool) → (b || false) ≡ b
-or-none true = refl
-or-none false = refl
-
 pub and-none : (b : Bool) → (b && false) ≡ false
 and-none true = refl
 and-none false = refl
@@ -85,7 +81,8 @@ sized-none = record { size = refl; small = λ g l. omega (arith, getD-replicate 
 pub sized-more : (top more : ℕ) (used : List ℕ) → Sized top used → top ≤ more → Sized more used
 sized-more top more used t h = record { size = t .size; small = λ g l. omega (arith, t .small g l) }
 
-pub sized-add : (top more : ℕ) (used : List ℕ) → Sized top used → (p v : ℕ) → p < 16 → top + v ≤ more → Sized more (set used p (getD used p 0 + v))
+pub sized-add : (top more : ℕ) (used : List ℕ) → Sized top used → (p v : ℕ) → p < 16 → top + v ≤ more
+    → Sized more (set used p (getD used p 0 + v))
 sized-add top more used t p v l h = record {
   size = length-set used p (getD used p 0 + v) ∙ t .size;
   small = λ g m. omega (arith, t .small g m, bump used p v g (omega (arith, t .size)), cond-le (eqb p g) v);

@@ -131,7 +131,8 @@ module _ (s : Scheduler) where
   running-of : Runs → T (runningOk s)
   unfolding runningOk runnableAt admittedAt
   running-of k =
-      by (λ b. T (b || (ltb (s .running) 64 && admittedAt s (s .running) && runnableAt s (s .running) && ltb (s .meter) 10000000000000))) idle
+      by (λ b. T (b || (ltb (s .running) 64 && admittedAt s (s .running) && runnableAt s (s .running) && ltb (s .meter) 10000000000000)))
+      idle
       (λ e. tt)
       (λ e.
       let m : Bool = ltb (s .meter) 10000000000000 in
@@ -192,8 +193,13 @@ module _ (s : Scheduler) where
         holds (settingsOk (s .settings)) (k .settings),
         holds (groupsOk s) (k .groups),
         threads-of each,
-        both (few && held) once (both few held (le→leb (s .count) 64 (k .few)) (held-of each (and-l low once entry))) (and-r low once entry),
-        running-of (record { number = and-r most number limits; early = and-r (most && number) early meter; runnable = and-r entries runs pass }),
+        both (few && held) once (both few held (le→leb (s .count) 64 (k .few)) (held-of each (and-l low once entry)))
+            (and-r low once entry),
+        running-of (record {
+          number = and-r most number limits;
+          early = and-r (most && number) early meter;
+          runnable = and-r entries runs pass;
+        }),
       ))
       (and-l most number limits)
 
@@ -202,7 +208,8 @@ module _ (s : Scheduler) where
 
   pub whole : T (shapeOk s) → (b : Bool) → b ≡ groupsOk s → (groupsOk s ≡ true → Parts) → b ≡ sound s
   whole h b e f =
-      same b (sound s) (λ z. sound-of h (f (is (groupsOk s) (subst T e z)))) (λ z. subst T (sym e) (holds (groupsOk s) (parts-of z .groups)))
+      same b (sound s) (λ z. sound-of h (f (is (groupsOk s) (subst T e z))))
+      (λ z. subst T (sym e) (holds (groupsOk s) (parts-of z .groups)))
 
 -- What the settings' and the meter's tests say of m and the running thread.
 
@@ -210,10 +217,12 @@ pub settings-most : (k : Settings) → settingsOk k ≡ true → k .thousandth �
 unfolding settingsOk within
 settings-most k e =
     let m : Bool = within 1 1000 (k .thousandth) in
-    leb→le (k .thousandth) 1000 (and-r (leb 1 (k .thousandth)) (leb (k .thousandth) 1000) (and-l m (within 1 1000000 (k .interval)) (holds (settingsOk k) e)))
+    leb→le (k .thousandth) 1000 (and-r (leb 1 (k .thousandth)) (leb (k .thousandth) 1000)
+    (and-l m (within 1 1000000 (k .interval)) (holds (settingsOk k) e)))
 
 pub running-most : (s : Scheduler)
-    → (leb (s .meter) 10000001000000 && leb (s .running) 64 && (eqb (s .running) 64 || ltb (s .meter) 10000000000000)) ≡ true → s .running ≤ 64
+    → (leb (s .meter) 10000001000000 && leb (s .running) 64 && (eqb (s .running) 64 || ltb (s .meter) 10000000000000)) ≡ true
+    → s .running ≤ 64
 running-most s e =
     let most : Bool = leb (s .meter) 10000001000000 in
     let number : Bool = leb (s .running) 64 in
@@ -227,4 +236,8 @@ shaped s vs g =
     let threads : length (s .threads) ≡ 64 = simp length-map at (g .1 .1 .0 .1 .0 .1) in
     let order : length (s .order) ≡ 64 = simp length-map at (g .1 .1 .1 .0 .1 .0 .1) in
     let groups : length (s .groups) ≡ 16 = simp length-map at (g .1 .1 .1 .1 .0 .1 .0 .1) in
-    holds (shapeOk s) (rw (eq-eqb (length (s .threads)) 64 threads, eq-eqb (length (s .groups)) 16 groups, eq-eqb (length (s .order)) 64 order))
+    holds (shapeOk s) (rw (
+      eq-eqb (length (s .threads)) 64 threads,
+      eq-eqb (length (s .groups)) 16 groups,
+      eq-eqb (length (s .order)) 64 order,
+    ))
