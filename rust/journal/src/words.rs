@@ -1,4 +1,4 @@
-//! The paper's words for answers.
+//! Words for answers.
 
 use crate::codec::{answer, kind};
 
