@@ -34,7 +34,7 @@ cd "$root" || fail "can't enter $root"
 
 if [ "$build" = yes ]; then
     rt staticlib abi || fail "rt staticlib abi failed"
-    CARGO_TARGET_DIR="$root/target/cargo" cargo run --quiet --offline --release --manifest-path rust/Cargo.toml -p boundary -- --check ||
+    cargo run --quiet --offline --release -p boundary -- --check ||
         fail "the header or the Rust declarations are out of date"
 fi
 archive=target/staticlib/libabi.a
@@ -62,8 +62,8 @@ package='/^\[/ { tests = /dev-dependencies/ || /^\[\[(test|example|bench)\]\]/ }
         mkdir "$new/lib" "$new/include" "$new/rust" &&
         cp "$archive" "$new/lib/libmtr.a" &&
         cp include/mtr.h "$new/include/mtr.h" &&
-        cp -R rust/binding/build.rs rust/binding/src "$new/rust/" &&
-        awk "$package" rust/binding/Cargo.toml >"$new/rust/Cargo.toml" &&
+        cp -R rust/mtr/build.rs rust/mtr/src "$new/rust/" &&
+        awk "$package" rust/mtr/Cargo.toml >"$new/rust/Cargo.toml" &&
         echo "$version" >"$new/VERSION"
 } || fail "can't fill $new"
 
@@ -72,7 +72,7 @@ The move-to-rear list scheduler (MTR-LS), version $version, for x86-64.
 
     lib/libmtr.a     the scheduler; of libc it needs these alone: $needs
     include/mtr.h    its functions for C11 and C++11, with what each does, refuses and leaves unchanged
-    rust/            the crate \`binding\`: the same with Rust types (no_std), and the declarations in its module raw
+    rust/            the crate \`mtr\`: the same with Rust types (no_std), and the declarations in its module raw
 
 C, with this folder as vendor/mtr:
 
@@ -80,16 +80,16 @@ C, with this folder as vendor/mtr:
 
     #include <mtr.h>
 
-    mtr_scheduler state = mtr_start(MTR_DEFAULT_THOUSANDTH, MTR_DEFAULT_INTERVAL).state;
-    mtr_reply reply = mtr_admit(state, 5, 0, 500);
+    mtr_scheduler state = mtr_by_value_start(MTR_DEFAULT_THOUSANDTH, MTR_DEFAULT_INTERVAL).state;
+    mtr_reply reply = mtr_by_value_admit(state, 5, 0, 500);
     state = reply.state;
 
 Rust, in Cargo.toml (the build script finds ../lib/libmtr.a):
 
     [dependencies]
-    binding = { path = "vendor/mtr/rust" }
+    mtr = { path = "vendor/mtr/rust" }
 
-    use binding::Scheduler;
+    use mtr::Scheduler;
 
     let mut scheduler = Scheduler::default();
     scheduler.admit(5, 0, 500)?;

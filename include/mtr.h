@@ -2,12 +2,12 @@
  * The move-to-rear list scheduler (MTR-LS): its boundary for C and C++.
  *
  * Written from the Rattle sources; do not edit. To renew it:
- *     cargo run --release --manifest-path rust/Cargo.toml -p boundary
+ *     cargo run --release -p boundary
  *
  * The scheduler's state is a struct that the host holds. A call takes it by
  * value and hands it back with the answer, after a refusal unchanged:
  *
- *     mtr_reply reply = mtr_dispatch(state);
+ *     mtr_reply reply = mtr_by_value_dispatch(state);
  *     state = reply.state;
  *
  * An answer is MTR_ACCEPTED or one of MTR_REFUSED_*. The library holds no
@@ -390,7 +390,7 @@ MTR_FIELD(mtr_found, records, 8, 372);
  * The state is then all zeros, on which every call answers 16. It takes no
  * state, so that any other is unchanged.
  */
-mtr_reply mtr_start(uint64_t thousandth, uint64_t interval);
+mtr_reply mtr_by_value_start(uint64_t thousandth, uint64_t interval);
 
 /*
  * Opens a group below an open parent of a lower number, with a ceiling in
@@ -405,8 +405,8 @@ mtr_reply mtr_start(uint64_t thousandth, uint64_t interval);
  *   5 MTR_REFUSED_NO_ROOM: the ceiling exceeds what the parent has free
  * The state is then unchanged. Accepted, only the group's entry changes.
  */
-mtr_reply mtr_open(mtr_scheduler state, uint64_t number, uint64_t parent,
-    uint64_t ceiling);
+mtr_reply mtr_by_value_open(mtr_scheduler state, uint64_t number, uint64_t
+    parent, uint64_t ceiling);
 
 /*
  * Closes a group that has no thread and no child.
@@ -417,7 +417,7 @@ mtr_reply mtr_open(mtr_scheduler state, uint64_t number, uint64_t parent,
  *   6 MTR_REFUSED_GROUP_IN_USE: the group has a thread or a child
  * The state is then unchanged. Accepted, only the group's entry changes.
  */
-mtr_reply mtr_close(mtr_scheduler state, uint64_t number);
+mtr_reply mtr_by_value_close(mtr_scheduler state, uint64_t number);
 
 /*
  * Admits a thread to a group with a reservation in thousandths: runnable, with
@@ -433,8 +433,8 @@ mtr_reply mtr_close(mtr_scheduler state, uint64_t number);
  * The state is then unchanged. Accepted, every other thread is unchanged, and
  * so are the groups.
  */
-mtr_reply mtr_admit(mtr_scheduler state, uint64_t number, uint64_t group,
-    uint64_t reservation);
+mtr_reply mtr_by_value_admit(mtr_scheduler state, uint64_t number, uint64_t
+    group, uint64_t reservation);
 
 /*
  * Removes a thread that does not run: takes it off the list and frees its
@@ -447,7 +447,7 @@ mtr_reply mtr_admit(mtr_scheduler state, uint64_t number, uint64_t group,
  * The state is then unchanged. Accepted, every other thread and the others'
  * mutual order are unchanged, and so are the groups.
  */
-mtr_reply mtr_remove(mtr_scheduler state, uint64_t number);
+mtr_reply mtr_by_value_remove(mtr_scheduler state, uint64_t number);
 
 /*
  * Makes a blocked thread runnable.
@@ -459,7 +459,7 @@ mtr_reply mtr_remove(mtr_scheduler state, uint64_t number);
  * The state is then unchanged. Accepted, the list, the thread's allotment and
  * every other thread are unchanged.
  */
-mtr_reply mtr_wake(mtr_scheduler state, uint64_t number);
+mtr_reply mtr_by_value_wake(mtr_scheduler state, uint64_t number);
 
 /*
  * Takes the first runnable thread of the list to run for its slice, the smaller
@@ -474,7 +474,7 @@ mtr_reply mtr_wake(mtr_scheduler state, uint64_t number);
  * The state is then unchanged. Accepted, only the number of the running thread
  * changes, and nothing if idle.
  */
-mtr_reply mtr_dispatch(mtr_scheduler state);
+mtr_reply mtr_by_value_dispatch(mtr_scheduler state);
 
 /*
  * Charges the running thread the ticks used and ends its run. An allotment that
@@ -490,7 +490,8 @@ mtr_reply mtr_dispatch(mtr_scheduler state);
  * The state is then unchanged. Accepted, every other thread and the others'
  * mutual order are unchanged, and so are the groups.
  */
-mtr_reply mtr_report(mtr_scheduler state, uint64_t reason, uint64_t used);
+mtr_reply mtr_by_value_report(mtr_scheduler state, uint64_t reason, uint64_t
+    used);
 
 /*
  * Answers 1 if the state is sound, else 0.
@@ -498,7 +499,7 @@ mtr_reply mtr_report(mtr_scheduler state, uint64_t reason, uint64_t used);
  * Refuses nothing.
  * The state is unchanged.
  */
-uint32_t mtr_sound(mtr_scheduler state);
+uint32_t mtr_by_value_sound(mtr_scheduler state);
 
 /*
  * The reservation of a priority: the priority plus 10.
@@ -507,7 +508,7 @@ uint32_t mtr_sound(mtr_scheduler state);
  *   4 MTR_REFUSED_AMOUNT: the priority is outside 1 to 10
  * It takes no state, so that any is unchanged.
  */
-mtr_mapped mtr_priority(uint64_t priority);
+mtr_mapped mtr_by_value_priority(uint64_t priority);
 
 /*
  * The reservations in a group and in every group below it, in thousandths.
@@ -517,7 +518,7 @@ mtr_mapped mtr_priority(uint64_t priority);
  *   2 MTR_REFUSED_NO_GROUP: the group is above 15 or not open
  * The state is unchanged.
  */
-mtr_total mtr_subtree(mtr_scheduler state, uint64_t group);
+mtr_total mtr_by_value_subtree(mtr_scheduler state, uint64_t group);
 
 /* Accounts */
 
@@ -530,7 +531,7 @@ mtr_total mtr_subtree(mtr_scheduler state, uint64_t group);
  *   7 MTR_REFUSED_NO_THREAD: the number is above 63 or not admitted
  * The state is unchanged.
  */
-mtr_lag_line mtr_lag(mtr_scheduler state, uint64_t number);
+mtr_lag_line mtr_by_value_lag(mtr_scheduler state, uint64_t number);
 
 /*
  * A thread's achieved share: its ticks since admission in thousandths of the
@@ -541,7 +542,7 @@ mtr_lag_line mtr_lag(mtr_scheduler state, uint64_t number);
  *   7 MTR_REFUSED_NO_THREAD: the number is above 63 or not admitted
  * The state is unchanged.
  */
-mtr_share_line mtr_share(mtr_scheduler state, uint64_t number);
+mtr_share_line mtr_by_value_share(mtr_scheduler state, uint64_t number);
 
 /*
  * Fills a lent table with the record of every admitted thread, largest lag
@@ -553,7 +554,8 @@ mtr_share_line mtr_share(mtr_scheduler state, uint64_t number);
  * The table is then unchanged. Accepted, the records past the last are
  * unchanged. The state is unchanged.
  */
-uint32_t mtr_roster(mtr_scheduler state, mtr_entry *table, size_t table_len);
+uint32_t mtr_by_value_roster(mtr_scheduler state, mtr_entry *table, size_t
+    table_len);
 
 /* Event blocks */
 
@@ -567,8 +569,8 @@ uint32_t mtr_roster(mtr_scheduler state, mtr_entry *table, size_t table_len);
  *       unknown kind, or a field not zero that its kind does not use
  * The area is then unchanged.
  */
-uint32_t mtr_write_block(uint8_t *area, size_t area_len, uint32_t block,
-    mtr_records list, size_t count);
+uint32_t mtr_by_value_write_block(uint8_t *area, size_t area_len, uint32_t
+    block, mtr_records list, size_t count);
 
 /*
  * Reads the records of the block that is expected to have this number.
@@ -580,7 +582,19 @@ uint32_t mtr_write_block(uint8_t *area, size_t area_len, uint32_t block,
  *       to 31 well-formed records
  * The count is then 0 and every record blank. The area is unchanged.
  */
-mtr_found mtr_read_block(const uint8_t *area, size_t area_len, uint32_t block);
+mtr_found mtr_by_value_read_block(const uint8_t *area, size_t area_len,
+    uint32_t block);
+
+/* Version */
+
+/*
+ * The library's version as one number: 10000 times the major, 100 times the
+ * minor, and the patch.
+ *
+ * Refuses nothing.
+ * It takes no state, so that any is unchanged.
+ */
+uint32_t mtr_version(void);
 
 #undef MTR_FIELD
 #undef MTR_STRUCT

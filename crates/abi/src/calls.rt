@@ -57,7 +57,7 @@ fn handed(done: Answered) -> Reply
 // time quantum, and `interval` is P, the preemption interval in ticks. Refused: 1, m is outside 1 to 1000 or P outside 1 to 1000000. The
 // state is then all zeros, on which every call answers 16. It takes no state, so that any other is unchanged.
 #[no_mangle]
-pub extern "C" fn mtr_start(thousandth: u64, interval: u64) -> Reply
+pub extern "C" fn mtr_by_value_start(thousandth: u64, interval: u64) -> Reply
     ensures { λ r. ⌜ r ≡ replyOut (startReply thousandth interval) ⌝ }
 {
     handed(Scheduler::start(thousandth, interval))
@@ -67,7 +67,12 @@ pub extern "C" fn mtr_start(thousandth: u64, interval: u64) -> Reply
 // is above 15 or not open; 3, the number is above 15, already open or not above the parent's; 4, the ceiling is outside 1 to 1000; 5, the
 // ceiling exceeds what the parent has free. The state is then unchanged. Accepted, only the group's entry changes.
 #[no_mangle]
-pub extern "C" fn mtr_open(state: Scheduler, number: u64, parent: u64, ceiling: u64) -> Reply
+pub extern "C" fn mtr_by_value_open(
+    state: Scheduler,
+    number: u64,
+    parent: u64,
+    ceiling: u64,
+) -> Reply
     ensures { λ r. ⌜ r ≡ replyOut (step (openGroup number parent ceiling) state) ⌝ }
 {
     handed(state.open(number, parent, ceiling))
@@ -76,7 +81,7 @@ pub extern "C" fn mtr_open(state: Scheduler, number: u64, parent: u64, ceiling: 
 // Closes a group that has no thread and no child. Refused: 16, the state is not sound; 2, the number is 0, above 15 or not open; 6, the
 // group has a thread or a child. The state is then unchanged. Accepted, only the group's entry changes.
 #[no_mangle]
-pub extern "C" fn mtr_close(state: Scheduler, number: u64) -> Reply
+pub extern "C" fn mtr_by_value_close(state: Scheduler, number: u64) -> Reply
     ensures { λ r. ⌜ r ≡ replyOut (step (closeGroup number) state) ⌝ }
 {
     handed(state.close(number))
@@ -87,7 +92,12 @@ pub extern "C" fn mtr_close(state: Scheduler, number: u64) -> Reply
 // reservation is outside 1 to 1000; 5, the reservation exceeds what the group has free. The state is then unchanged. Accepted, every other
 // thread is unchanged, and so are the groups.
 #[no_mangle]
-pub extern "C" fn mtr_admit(state: Scheduler, number: u64, group: u64, reservation: u64) -> Reply
+pub extern "C" fn mtr_by_value_admit(
+    state: Scheduler,
+    number: u64,
+    group: u64,
+    reservation: u64,
+) -> Reply
     ensures { λ r. ⌜ r ≡ replyOut (step (admit number group reservation) state) ⌝ }
 {
     handed(state.admit(number, group, reservation))
@@ -97,7 +107,7 @@ pub extern "C" fn mtr_admit(state: Scheduler, number: u64, group: u64, reservati
 // the number is above 63 or not admitted; 9, the thread is running. The state is then unchanged. Accepted, every other thread and the
 // others' mutual order are unchanged, and so are the groups.
 #[no_mangle]
-pub extern "C" fn mtr_remove(state: Scheduler, number: u64) -> Reply
+pub extern "C" fn mtr_by_value_remove(state: Scheduler, number: u64) -> Reply
     ensures { λ r. ⌜ r ≡ replyOut (step (remove number) state) ⌝ }
 {
     handed(state.remove(number))
@@ -106,7 +116,7 @@ pub extern "C" fn mtr_remove(state: Scheduler, number: u64) -> Reply
 // Makes a blocked thread runnable. Refused: 16, the state is not sound; 7, the number is above 63 or not admitted; 10, the thread is not
 // blocked. The state is then unchanged. Accepted, the list, the thread's allotment and every other thread are unchanged.
 #[no_mangle]
-pub extern "C" fn mtr_wake(state: Scheduler, number: u64) -> Reply
+pub extern "C" fn mtr_by_value_wake(state: Scheduler, number: u64) -> Reply
     ensures { λ r. ⌜ r ≡ replyOut (step (wake number) state) ⌝ }
 {
     handed(state.wake(number))
@@ -117,7 +127,7 @@ pub extern "C" fn mtr_wake(state: Scheduler, number: u64) -> Reply
 // Refused: 16, the state is not sound; 12, a thread is running; 15, the meter is at least 10000000000000. The state is then unchanged.
 // Accepted, only the number of the running thread changes, and nothing if idle.
 #[no_mangle]
-pub extern "C" fn mtr_dispatch(state: Scheduler) -> Reply
+pub extern "C" fn mtr_by_value_dispatch(state: Scheduler) -> Reply
     ensures { λ r. ⌜ r ≡ replyOut (step dispatch state) ⌝ }
 {
     handed(state.dispatch())
@@ -129,7 +139,7 @@ pub extern "C" fn mtr_dispatch(state: Scheduler) -> Reply
 // than the slice. The state is then unchanged. Accepted, every other thread and the others' mutual order are unchanged, and so are the
 // groups.
 #[no_mangle]
-pub extern "C" fn mtr_report(state: Scheduler, reason: u64, used: u64) -> Reply
+pub extern "C" fn mtr_by_value_report(state: Scheduler, reason: u64, used: u64) -> Reply
     ensures { λ r. ⌜ r ≡ replyOut (step (report reason used) state) ⌝ }
 {
     handed(state.report(reason, used))
@@ -137,7 +147,7 @@ pub extern "C" fn mtr_report(state: Scheduler, reason: u64, used: u64) -> Reply
 
 // Answers 1 if the state is sound, else 0. Refused: nothing. The state is unchanged.
 #[no_mangle]
-pub extern "C" fn mtr_sound(state: Scheduler) -> u32
+pub extern "C" fn mtr_by_value_sound(state: Scheduler) -> u32
     ensures { λ r. ⌜ r ≡ flagOut (sound state) ⌝ }
 {
     if state.sound() { 1 } else { 0 }
@@ -146,7 +156,7 @@ pub extern "C" fn mtr_sound(state: Scheduler) -> u32
 // The reservation of a priority: the priority plus 10. Refused: 4, the priority is outside 1 to 10. It takes no state, so that
 // any is unchanged.
 #[no_mangle]
-pub extern "C" fn mtr_priority(priority: u64) -> Mapped
+pub extern "C" fn mtr_by_value_priority(priority: u64) -> Mapped
     ensures { λ r. ⌜ r ≡ mappedOut (mapped priority) ⌝ }
 {
     let found = priority::reservation_of(priority);
@@ -165,7 +175,7 @@ pub extern "C" fn mtr_priority(priority: u64) -> Mapped
 // The reservations in a group and in every group below it, in thousandths. Refused: 16, the state is not sound; 2, the group is above 15 or
 // not open. The state is unchanged.
 #[no_mangle]
-pub extern "C" fn mtr_subtree(state: Scheduler, group: u64) -> Total
+pub extern "C" fn mtr_by_value_subtree(state: Scheduler, group: u64) -> Total
     ensures { λ r. ⌜ r ≡ totalOut (subtreeReply state group) ⌝ }
 {
     let found = state.subtree_total(group);

@@ -3,3 +3,4 @@
 pub mod blocks;
 pub mod calls;
 pub mod roster;
+pub mod version;

@@ -26,7 +26,7 @@ pub struct ShareLine {
 // A thread's lag: its reservation times the meter's growth since its anchor, less 1000 times its own ticks since; 0 while it is blocked.
 // Refused: 16, the state is not sound; 7, the number is above 63 or not admitted. The state is unchanged.
 #[no_mangle]
-pub extern "C" fn mtr_lag(state: Scheduler, number: u64) -> LagLine
+pub extern "C" fn mtr_by_value_lag(state: Scheduler, number: u64) -> LagLine
     ensures { λ r. ⌜ lagFigure r ≡ lagReply state number ⌝ }
 {
     match accounts::figures::lag(state, number) {
@@ -38,7 +38,7 @@ pub extern "C" fn mtr_lag(state: Scheduler, number: u64) -> LagLine
 // A thread's achieved share: its ticks since admission in thousandths of the meter's growth since then, rounded down; 0 if it has not grown.
 // Refused: 16, the state is not sound; 7, the number is above 63 or not admitted. The state is unchanged.
 #[no_mangle]
-pub extern "C" fn mtr_share(state: Scheduler, number: u64) -> ShareLine
+pub extern "C" fn mtr_by_value_share(state: Scheduler, number: u64) -> ShareLine
     ensures { λ r. ⌜ shareFigure r ≡ shareReply state number ⌝ }
 {
     match accounts::figures::share(state, number) {
@@ -57,7 +57,7 @@ pub extern "C" fn mtr_share(state: Scheduler, number: u64) -> ShareLine
 // sound; 17, the table is shorter than the number of threads. The table is then unchanged. Accepted, the records past the last are
 // unchanged. The state is unchanged.
 #[no_mangle]
-pub extern "C" fn mtr_roster(state: Scheduler, table: &mut [Entry]) -> u32
+pub extern "C" fn mtr_by_value_roster(state: Scheduler, table: &mut [Entry]) -> u32
     ensures { λ r. ⌜ (r ≡ rosterRefusal state (length (now (table .entry)))) × (now (table .exit) ≡ tableOf state (now (table .entry))) ⌝ }
 {
     accounts::roster::roster(state, table)

@@ -5,12 +5,12 @@ use mathlib.Core.Bool.{true, false, not, cond, _||_}
 use native.Mathlib.Omega.{arith}
 use borrow.Author.Tests.{lt-ltb, le-ltb, ltb-false, eqb-true}
 use lib.Dec.{T, ltb, eqb}
-use Rattle.order.proofs.Bools.{by, holds}
+use Rattle.base.specs.Checks.{firstOf}
+use Rattle.base.proofs.Bools.{by, holds}
 use Rattle.scheduler.specs.declared.Thread.{Thread}
 use Rattle.scheduler.specs.declared.Scheduler.{Scheduler}
 use Rattle.scheduler.specs.State.{threadAt, admittedAt}
 use Rattle.scheduler.specs.Sound.{sound}
-use Rattle.scheduler.specs.Refusals.{firstOf}
 use Rattle.accounts.specs.declared.figures.Account.the-variants.{Found, Refused}
 use Rattle.accounts.specs.Figures.{figure, reply, figureRefusal}
 use Rattle.accounts.specs.Inner.{Bounded, accountOf}

@@ -4,12 +4,13 @@ use mathlib.Core.Path.{_≡_}
 use mathlib.Core.Bool.{true}
 use native.Mathlib.Omega.{arith}
 use lib.Dec.{T, leb, leb→le}
-use Rattle.order.specs.Lists.{everyBelow}
-use Rattle.order.proofs.Bools.{and-l, and-r, holds, implied}
-use Rattle.order.proofs.Sums.{everyBelow-at}
+use Rattle.base.specs.Checks.{within}
+use Rattle.base.specs.Lists.{everyBelow}
+use Rattle.base.proofs.Bools.{and-l, and-r, holds, implied}
+use Rattle.base.proofs.Sums.{everyBelow-at}
 use Rattle.scheduler.specs.declared.Scheduler.{Scheduler}
 use Rattle.scheduler.specs.State.{threadAt, admittedAt, reservationAt}
-use Rattle.scheduler.specs.Sound.{within, sound, shapeOk, threadOk, listOk}
+use Rattle.scheduler.specs.Sound.{sound, shapeOk, threadOk, listOk}
 use Rattle.accounts.specs.Inner.{Bounded}
 
 -- the tests for each thread, of the list, of the tables' lengths and of the meter

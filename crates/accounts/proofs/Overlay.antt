@@ -10,7 +10,7 @@ use borrow.Author.Tests.{ltb-true, ltb-false}
 use lib.Dec.{ltb}
 use lib.ListN.{length, take, drop, set, getD, length-append, length-drop}
 use lib.Seq.{length-take-le}
-use Rattle.order.proofs.Bools.{cases}
+use Rattle.base.proofs.Bools.{cases}
 
 module _ {A : Type 0} where
   unfoldable pub overlaid : List A → ℕ → List A → List A

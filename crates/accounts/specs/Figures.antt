@@ -5,10 +5,10 @@ use mathlib.Core.Bool.{not, cond, _||_}
 use mathlib.Core.List.{[], _∷_}
 use lib.Dec.{ltb, eqb}
 use lib.IntN.{ℤ, pos}
+use Rattle.base.specs.Checks.{_⇒_, firstOf}
 use Rattle.scheduler.specs.declared.Scheduler.{Scheduler}
 use Rattle.scheduler.specs.State.{threadAt, admittedAt}
 use Rattle.scheduler.specs.Sound.{sound}
-use Rattle.scheduler.specs.Refusals.{firstOf, _⇒_}
 use Rattle.scheduler.specs.Accounts.{lagOf, shareOf}
 use Rattle.accounts.specs.declared.Lag.{Lag}
 use Rattle.accounts.specs.declared.Lag.the-variants as lag

@@ -1,4 +1,4 @@
 pub mod Replay
 pub mod Run
-pub mod Steps
+pub mod Inner
 pub mod Examples

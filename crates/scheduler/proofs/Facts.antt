@@ -10,10 +10,11 @@ use lib.ListN.{length, length-append, length-drop, getD, take, drop, set, List·
 use lib.Seq.{getD-set-same, getD-set-other, take-at, take-suc-set, length-take-le}
 use lib.Dec.{T, ltb, leb, eqb, ltb→lt, leb→le, eqb→eq, lt→ltb, le→leb}
 use borrow.Author.Tests.{eqb-true, eqb-false, ne-eqb, eq-eqb, ltb-false, lt-ltb}
-use Rattle.order.specs.Lists.{member, distinct, without, everyOf, everyBelow}
-use Rattle.order.proofs.Bools.{by, and-l, and-r, both, is, isn't, holds, clash, implies, implied}
-use Rattle.order.proofs.Lists.{everyOf-at, everyOf-map, length-without, pigeons}
-use Rattle.order.proofs.Sums.{everyBelow-at, everyBelow-of}
+use Rattle.base.specs.Checks.{within, Check, firstOf}
+use Rattle.base.specs.Lists.{member, distinct, without, everyOf, everyBelow}
+use Rattle.base.proofs.Bools.{by, and-l, and-r, both, is, isn't, holds, clash, implies, implied}
+use Rattle.base.proofs.Lists.{everyOf-at, everyOf-map, length-without, pigeons}
+use Rattle.base.proofs.Sums.{everyBelow-at, everyBelow-of}
 use Rattle.scheduler.specs.declared.Thread.{Thread}
 use Rattle.scheduler.specs.declared.Settings.{Settings}
 use Rattle.scheduler.specs.declared.Scheduler.{Scheduler}
@@ -33,8 +34,7 @@ use Rattle.scheduler.specs.State.{
   withThread,
   withList,
 }
-use Rattle.scheduler.specs.Sound.{within, settingsOk, load, groupOk, groupsOk, threadOk, listOk, runningOk, shapeOk, sound}
-use Rattle.scheduler.specs.Refusals.{Check, firstOf}
+use Rattle.scheduler.specs.Sound.{settingsOk, load, groupOk, groupsOk, threadOk, listOk, runningOk, shapeOk, sound}
 use Rattle.scheduler.specs.Effects.{join}
 
 -- a thread's own numbers

@@ -9,20 +9,20 @@ use native.Mathlib.Omega.{arith}
 use native.Mathlib.Nat.{le-refl, mul-le-mul-left, mul-le-mul-right, min-le-left, min-le-right, sub-le}
 use lib.Dec.{T, eqb}
 use borrow.Author.Tests.{eqb-true, eqb-false, ne-eqb, eq-eqb}
-use Rattle.order.specs.Lists.{member, first}
-use Rattle.order.proofs.Bools.{by, and-l, and-r, is}
-use Rattle.order.proofs.Lists.{sumOf, ahead, before, mask, ahead-sumOf, sumOf-le, sumOf-split, sumOf-once, ahead-none}
+use Rattle.base.specs.Lists.{member, first}
+use Rattle.base.proofs.Bools.{by, and-l, and-r, is}
+use Rattle.base.proofs.Lists.{sumOf, ahead, before, mask, ahead-sumOf, sumOf-le, sumOf-split, sumOf-once, ahead-none}
 use Rattle.scheduler.specs.declared.Scheduler.{Scheduler}
 use Rattle.scheduler.specs.State.{admittedAt, runnableAt, reservationAt, allotmentAt, listed}
 use Rattle.scheduler.specs.Sound.{sound}
 use Rattle.scheduler.specs.Refusals.{Call}
 use Rattle.scheduler.specs.Stretch.{Event, trace, final, accepted, ticksOf, named, ticksIn, allTicks, ticksBy, anyone, throughout, keepsRunnable, keepsAdmitted, Protected, Present, Shares}
 use Rattle.scheduler.proofs.Facts.{Facts, facts, member-admitted, below-quantum, below-whole}
-use Rattle.scheduler.proofs.Gauge.{gauge}
-use Rattle.scheduler.proofs.Step.{weight, potential, Guarded}
-use Rattle.scheduler.proofs.Keep.{runnable-admitted}
+use Rattle.scheduler.proofs.Share.Gauge.{gauge}
+use Rattle.scheduler.proofs.Share.Step.{weight, potential, Guarded}
+use Rattle.scheduler.proofs.Share.Keep.{runnable-admitted}
 use Rattle.scheduler.proofs.Tree.{listed-most}
-use Rattle.scheduler.proofs.Share.{Reserved, Bound, stretch}
+use Rattle.scheduler.proofs.Share.Stretch.{Reserved, Bound, stretch}
 
 -- ticks of all, in two parts
 ticks-split : (x last : ℕ) (es : List Event) → ticksIn anyone last es ≡ ticksIn (λ n. not (eqb n x)) last es + ticksIn (λ n. eqb n x) last es

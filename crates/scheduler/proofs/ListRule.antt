@@ -9,10 +9,10 @@ use lib.ListN.{length, getD, take, set}
 use lib.Dec.{T, ltb, leb, eqb, ltb→lt}
 use borrow.Author.Tests.{eqb-true, eqb-false, ne-eqb, eq-eqb, lt-leb}
 use lib.IntN.{pos, subℕ}
-use Rattle.order.specs.Lists.{without, everyOf}
-use Rattle.order.proofs.Bools.{cases, and-l, is, isn't, holds, deny}
-use Rattle.order.proofs.Lists.{before, everyOf-at, everyOf-map, first-found, passed-before, passed-at, passed-all, first-none, without-snoc, without-twice, member-take}
-use Rattle.order.proofs.Sums.{only}
+use Rattle.base.specs.Lists.{without, everyOf}
+use Rattle.base.proofs.Bools.{cases, and-l, is, isn't, holds, deny}
+use Rattle.base.proofs.Lists.{before, everyOf-at, everyOf-map, first-found, passed-before, passed-at, passed-all, first-none, without-snoc, without-twice, member-take}
+use Rattle.base.proofs.Sums.{only}
 use Rattle.scheduler.specs.declared.Thread.{Thread}
 use Rattle.scheduler.specs.declared.Scheduler.{Scheduler}
 use Rattle.scheduler.specs.State.{threadAt, admittedAt, blockedAt, runnableAt, reservedAt, allotmentAt, listed, withThread, withGroup, withList, withRun, isRunnable, isBlocked}
@@ -23,17 +23,8 @@ use Rattle.scheduler.specs.Rule.{isDispatch, accept, refuse, step}
 use Rattle.scheduler.specs.Stretch.{accepted}
 use Rattle.scheduler.proofs.Facts.{Facts, facts, in-threads, member-admitted, fits, take-rear, take-off, room, listed-join, thread-same, unlisted}
 use Rattle.scheduler.proofs.Passed.{passes, admit-passed, remove-passed, wake-passed, report-passed, reported-cases}
-use Rattle.scheduler.proofs.Step.{woken-allotment, charged-left}
+use Rattle.scheduler.proofs.Steps.{step-state, refused-state, woken-allotment, charged-left}
 use Rattle.scheduler.specs.Accounts.{lagOf}
-
--- the state after a call, accepted or refused
-pub step-state : (c : Call) (s : Scheduler) → refusal c s ≡ 0 → step c s ≡ accept c s
-unfolding step
-step-state c s e = rw e
-
-pub refused-state : (c : Call) (s : Scheduler) → (refusal c s ≡ 0 → ⊥) → step c s ≡ refuse (refusal c s) s
-unfolding step
-refused-state c s ne = rw (ne-eqb (refusal c s) 0 ne)
 
 -- the thread that a call puts into the list, takes off it or may move, or 64
 unfoldable pub mover : Call → Scheduler → ℕ

@@ -4,7 +4,7 @@ use mathlib.Core.List.{List, [], _∷_, _++_}
 use mathlib.Core.Bool.{Bool, cond, _||_}
 use lib.ListN.{drop, set, replicate}
 use lib.Dec.{leb, eqb}
-use Rattle.order.specs.Lists.{without, first, passed}
+use Rattle.base.specs.Lists.{without, first, passed}
 use Rattle.scheduler.specs.declared.Thread.{Thread}
 use Rattle.scheduler.specs.declared.Scheduler.{Scheduler}
 use Rattle.scheduler.specs.State.{noThread, noGroup, stateOf, threadAt, runnableAt, quantum, listed, withThread, withGroup, withList, withRun}

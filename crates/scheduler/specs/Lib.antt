@@ -7,6 +7,6 @@ pub mod Answers
 pub mod Accounts
 pub mod Stretch
 pub mod Tree
-pub mod TestParts
+pub mod Inner
 pub mod Subtree
 pub mod Batch

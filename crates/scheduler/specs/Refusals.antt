@@ -4,10 +4,11 @@ use Prim.Native.Nat.{ℕ, _-_}
 use mathlib.Core.List.{List, [], _∷_}
 use mathlib.Core.Bool.{Bool, not, cond, _&&_, _||_}
 use lib.Dec.{ltb, leb, eqb}
-use Rattle.order.specs.Lists.{everyBelow}
+use Rattle.base.specs.Checks.{within, Check, _⇒_, firstOf}
+use Rattle.base.specs.Lists.{everyBelow}
 use Rattle.scheduler.specs.declared.Scheduler.{Scheduler}
 use Rattle.scheduler.specs.State.{groupAt, admittedAt, blockedAt, openAt, sliceAt}
-use Rattle.scheduler.specs.Sound.{within, threadIn, childOf, load, sound}
+use Rattle.scheduler.specs.Sound.{threadIn, childOf, load, sound}
 
 -- The seven calls of a stretch. Start makes a state of its own.
 pub data Call : Type 0 where
@@ -18,20 +19,6 @@ pub data Call : Type 0 where
   wake : (number : ℕ) → Call
   dispatch : Call
   report : (reason used : ℕ) → Call
-
--- a check that turns a call down, with its number
-pub record Check : Type 0 where
-  pub applies : Bool
-  pub number : ℕ
-
-abbrev pub _⇒_ : Bool → ℕ → Check
-b ⇒ n = record { applies = b; number = n }
-
-infixl 25 _⇒_
--- the number of the first check that applies, or 0
-unfoldable pub firstOf : List Check → ℕ
-firstOf [] = 0
-firstOf (c ∷ cs) = cond (c .applies) (c .number) (firstOf cs)
 
 -- "what the group has free"
 unfoldable pub free : Scheduler → ℕ → ℕ

@@ -6,13 +6,11 @@ use Prim.Native.Nat.{ℕ, _+_, _-_}
 use mathlib.Core.Bool.{Bool, not, cond, _&&_, _||_}
 use lib.ListN.{length}
 use lib.Dec.{ltb, leb, eqb}
-use Rattle.order.specs.Lists.{member, distinct, everyOf, everyBelow, sumBelow}
+use Rattle.base.specs.Checks.{within}
+use Rattle.base.specs.Lists.{member, distinct, everyOf, everyBelow, sumBelow}
 use Rattle.scheduler.specs.declared.Settings.{Settings}
 use Rattle.scheduler.specs.declared.Scheduler.{Scheduler}
 use Rattle.scheduler.specs.State.{threadAt, groupAt, admittedAt, runnableAt, reservedAt, reservationAt, allotmentAt, openAt, quantum, listed}
-
-unfoldable pub within : ℕ → ℕ → ℕ → Bool
-within low high n = leb low n && leb n high
 
 -- "m, .. 1 to 1000", "P, .. 1 to 1,000,000 ticks"
 unfoldable pub settingsOk : Settings → Bool

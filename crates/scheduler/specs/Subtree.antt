@@ -5,13 +5,13 @@ use mathlib.Core.Path.{_≡_}
 use mathlib.Core.List.{List, [], _∷_}
 use mathlib.Core.Bool.{not, cond}
 use lib.Dec.{T, eqb}
+use Rattle.base.specs.Checks.{_⇒_, firstOf}
 use Rattle.scheduler.specs.declared.Group.{Group}
 use Rattle.scheduler.specs.declared.Scheduler.{Scheduler}
 use Rattle.scheduler.specs.State.{openAt}
 use Rattle.scheduler.specs.Sound.{sound}
-use Rattle.scheduler.specs.Refusals.{_⇒_, firstOf}
 use Rattle.scheduler.specs.Tree.{subtreeTotal}
-use Rattle.scheduler.specs.TestParts.{Sums}
+use Rattle.scheduler.specs.Inner.{Sums}
 
 -- answer: 0 and the sum, or the refusal
 pub record Subtree : Type 0 where

@@ -7,20 +7,21 @@ ghost use mathlib.Core.Bool.{true, not, cond, _&&_};
 ghost use mathlib.Core.List.{[], _∷_};
 ghost use Prim.Native.Nat.{_+_, _≤_, _<_};
 ghost use lib.Dec.{ltb, eqb};
+ghost use Rattle.base.specs.Checks.{within, _⇒_, firstOf};
 ghost use Rattle.scheduler.specs.State.{noGroup, isOpen, openAt, threadAt};
-ghost use Rattle.scheduler.specs.Sound.{within, ceilingsIn, load, sound};
-ghost use Rattle.scheduler.specs.Refusals.{_⇒_, firstOf, free, refusal, openGroup, closeGroup, admit};
+ghost use Rattle.scheduler.specs.Sound.{ceilingsIn, load, sound};
+ghost use Rattle.scheduler.specs.Refusals.{free, refusal, openGroup, closeGroup, admit};
 ghost use Rattle.scheduler.specs.Effects.{newThread};
 ghost use Rattle.scheduler.specs.Rule.{step};
 ghost use Rattle.scheduler.specs.Answers.{replyOf, subtreeOf};
 ghost use Rattle.scheduler.specs.Tree.{subtreeTotal};
 ghost use Rattle.scheduler.specs.Subtree.{subtreeReply, Rooted};
-ghost use Rattle.scheduler.specs.TestParts.{Sums};
+ghost use Rattle.scheduler.specs.Inner.{Sums};
 use crate::Answered;
 use crate::Group;
 use crate::Scheduler;
 use crate::Thread;
-use crate::run;
+use crate::threads;
 
 const GROUPS: u64 = Scheduler::GROUPS as u64;
 
@@ -303,7 +304,7 @@ impl Scheduler {
         let group = old.opened_if(code == 0, parent, ceiling);
         self.groups[at] = group;
         Answered {
-            answer: run::answered(code),
+            answer: threads::answered(code),
             state: self,
         }
     }
@@ -322,7 +323,7 @@ impl Scheduler {
         let group = old.closed_if(code == 0);
         self.groups[at] = group;
         Answered {
-            answer: run::answered(code),
+            answer: threads::answered(code),
             state: self,
         }
     }
@@ -361,7 +362,7 @@ impl Scheduler {
         self.order[rear] = place_if(accepted, last, at as u8);
         self.count = count_if(accepted, count);
         Answered {
-            answer: run::answered(code),
+            answer: threads::answered(code),
             state: self,
         }
     }

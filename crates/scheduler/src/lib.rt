@@ -5,8 +5,8 @@ ghost use Rattle.scheduler.specs.State.{defaultSettings};
 pub mod batch;
 pub mod groups;
 pub mod priority;
-pub mod run;
 pub mod sound;
+pub mod threads;
 
 // The settings: m, the ticks per thousandth of the virtual time quantum, and P, the preemption interval in ticks.
 #[repr(C)]
@@ -81,7 +81,7 @@ impl Scheduler {
     pub const METER_MOST: u64 = 10000001000000;
 }
 
-// What a call answers. `lineOf` sets out the paper's numbers for each case.
+// What a call answers. `numbersOf` sets out the paper's numbers for each case.
 pub enum Answer {
     Accepted,
     Refused(u32),

@@ -38,7 +38,7 @@ static _Noreturn void fail(const char *what)
 static void flush_block(host *h)
 {
     uint8_t area[MTR_BLOCK_BYTES];
-    if (mtr_write_block(area, sizeof area, h->block, h->list, h->count) != MTR_ACCEPTED)
+    if (mtr_by_value_write_block(area, sizeof area, h->block, h->list, h->count) != MTR_ACCEPTED)
         fail("a record has no form");
     if (fwrite(area, sizeof area, 1, h->journal) != 1)
         fail("the journal cannot be written");
@@ -51,21 +51,21 @@ static mtr_reply make(mtr_scheduler state, mtr_record r)
 {
     switch (r.kind) {
     case MTR_KIND_OPEN:
-        return mtr_open(state, r.subject, r.group, r.amount);
+        return mtr_by_value_open(state, r.subject, r.group, r.amount);
     case MTR_KIND_CLOSE:
-        return mtr_close(state, r.subject);
+        return mtr_by_value_close(state, r.subject);
     case MTR_KIND_ADMIT:
-        return mtr_admit(state, r.subject, r.group, r.amount);
+        return mtr_by_value_admit(state, r.subject, r.group, r.amount);
     case MTR_KIND_REMOVE:
-        return mtr_remove(state, r.subject);
+        return mtr_by_value_remove(state, r.subject);
     case MTR_KIND_WAKE:
-        return mtr_wake(state, r.subject);
+        return mtr_by_value_wake(state, r.subject);
     case MTR_KIND_DISPATCH:
-        return mtr_dispatch(state);
+        return mtr_by_value_dispatch(state);
     case MTR_KIND_REPORT:
-        return mtr_report(state, r.reason, r.ticks);
+        return mtr_by_value_report(state, r.reason, r.ticks);
     default:
-        return mtr_start(r.amount, r.ticks);
+        return mtr_by_value_start(r.amount, r.ticks);
     }
 }
 
@@ -296,7 +296,7 @@ static void print_roster(const host *h)
 {
     static const char *const states[] = { "runnable", "blocked", "running" };
     mtr_entry table[MTR_THREADS];
-    if (mtr_roster(h->state, table, MTR_THREADS) != MTR_ACCEPTED)
+    if (mtr_by_value_roster(h->state, table, MTR_THREADS) != MTR_ACCEPTED)
         fail("the roster is refused");
     for (uint32_t i = 0; i < h->state.count; i++)
         printf("roster %" PRIu32 " %s %" PRIu32 " %" PRId64 " %" PRIu32 "\n", table[i].number, states[table[i].state],
@@ -322,7 +322,7 @@ int main(int argc, char **argv)
         fail("usage: controller SEED JOURNAL [MILLISECONDS, at most 1000000]");
     static host h;
     static world w;
-    h.state = mtr_start(MTR_DEFAULT_THOUSANDTH, MTR_DEFAULT_INTERVAL).state;
+    h.state = mtr_by_value_start(MTR_DEFAULT_THOUSANDTH, MTR_DEFAULT_INTERVAL).state;
     h.journal = fopen(argv[2], "wb");
     if (h.journal == NULL)
         fail("the journal cannot be opened");

@@ -2,15 +2,15 @@
 
 use std::hint::black_box;
 
-use binding::numbers;
-use compare::{to_library, to_library_record};
+use check::compare::{to_library, to_library_record};
 use model::rule::{Scheduler, BLOCK, EXIT, TICK, YIELD};
+use mtr::numbers;
 
 use crate::states::{
     above_groups, block_first, records, reservation, running, sloped, threads, worn,
 };
 
-/// The calls by their exported names without `mtr_`.
+/// The calls by their exported names without `mtr_by_value_`.
 pub const CALLS: [&str; 16] = [
     "start",
     "open",

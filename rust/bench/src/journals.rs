@@ -99,9 +99,8 @@ pub fn print() {
         }
         assert!(std::fs::read(&left).unwrap() == std::fs::read(&right).unwrap());
         let ratio = median(times.1.iter().zip(&times.0).map(|(m, l)| m / l).collect());
-        let bar = if threads == 64 { " (bar 0.7)" } else { "" };
         println!(
-            "{threads:7}  {records:8}  {:7.3} s   {:7.3} s   {ratio:.2}{bar}",
+            "{threads:7}  {records:8}  {:7.3} s   {:7.3} s   {ratio:.2}",
             median(times.0),
             median(times.1)
         );

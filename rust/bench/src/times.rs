@@ -7,12 +7,12 @@
 use std::hint::black_box;
 use std::time::{Duration, Instant};
 
-use binding::{numbers, raw};
-use compare::{to_library, to_library_record};
+use check::compare::{to_library, to_library_record};
 use model::accounts::Entry;
 use model::blocks::{decode, write_block, Record, BLOCK as BLOCK_BYTES, RECORDS};
 use model::by_value;
 use model::rule::{Scheduler, BLOCK, BLOCKED, TICK};
+use mtr::{numbers, raw};
 
 use crate::states::{records, reservation, sloped, threads, worn};
 
@@ -67,29 +67,18 @@ fn measure(mut sides: Vec<Side>) -> Times {
     }
 }
 
-/// A ratio with its bar, where it has one.
-fn against(ratio: f64, bar: Option<f64>) -> String {
-    match bar {
-        Some(bar) => format!("{ratio:.2} (bar {bar:.1})"),
-        None => format!("{ratio:.2}"),
-    }
-}
-
-fn line(name: &str, threads: &str, sides: Vec<Side>, bars: [Option<f64>; 2]) {
+fn line(name: &str, threads: &str, sides: Vec<Side>) {
     let by_value = sides.len() > 2;
     let times = measure(sides);
     let nanos = |k: usize| format!("{:.0} ns", times.nanos[k]);
+    let ratio = |k: usize| format!("{:.2}", times.ratios[k]);
     println!(
-        "{name:<26} {threads:>3} {:>9} {:>9} {:>9}   {:<15} {}",
+        "{name:<26} {threads:>3} {:>9} {:>9} {:>9}   {:<10} {}",
         nanos(0),
         nanos(1),
         if by_value { nanos(2) } else { String::new() },
-        against(times.ratios[0], bars[0]),
-        if by_value {
-            against(times.ratios[1], bars[1])
-        } else {
-            String::new()
-        }
+        ratio(0),
+        if by_value { ratio(1) } else { String::new() }
     );
 }
 
@@ -127,12 +116,7 @@ fn dispatch_report(n: u64) {
             *s = by_value::report(next, TICK, reply.slice as u64).1;
         },
     );
-    let bars = if n == 64 {
-        [Some(1.6), Some(1.2)]
-    } else {
-        [None; 2]
-    };
-    line("dispatch + report", &n.to_string(), sides, bars);
+    line("dispatch + report", &n.to_string(), sides);
 }
 
 /// The wake alone: before each the thread is blocked by a write to its status.
@@ -154,7 +138,7 @@ fn wake(n: u64) {
             *s = by_value::wake(*s, number).1;
         },
     );
-    line("wake", &n.to_string(), sides, [None; 2]);
+    line("wake", &n.to_string(), sides);
 }
 
 /// The first thread is dispatched, uses a tick, blocks and is woken.
@@ -178,7 +162,7 @@ fn dispatch_block_wake(n: u64) {
             *s = by_value::wake(next, reply.thread as u64).1;
         },
     );
-    line("dispatch + block + wake", &n.to_string(), sides, [None; 2]);
+    line("dispatch + block + wake", &n.to_string(), sides);
 }
 
 /// The last of n threads is admitted and removed.
@@ -202,7 +186,7 @@ fn admit_remove(n: u64) {
             *s = by_value::remove(next, number).1;
         },
     );
-    line("admit + remove", &n.to_string(), sides, [None; 2]);
+    line("admit + remove", &n.to_string(), sides);
 }
 
 #[inline(never)]
@@ -223,10 +207,10 @@ fn soundness(n: u64) {
             black_box(sound_by_value(*s));
         },
     );
-    line("soundness test", &n.to_string(), sides, [None; 2]);
+    line("soundness test", &n.to_string(), sides);
 }
 
-fn roster(name: &str, s: Scheduler, bar: Option<f64>) {
+fn roster(name: &str, s: Scheduler) {
     let state = to_library(&s);
     let mut table = [numbers::Entry::default(); 64];
     let mut own = [Entry::default(); 64];
@@ -238,11 +222,11 @@ fn roster(name: &str, s: Scheduler, bar: Option<f64>) {
             black_box(&s).roster(black_box(&mut own));
         }),
     ];
-    line(name, "64", sides, [bar, None]);
+    line(name, "64", sides);
 }
 
 /// A block of 31 records. The library takes them as an array by value; the
-/// binding's function makes it from a slice.
+/// crate's function makes it from a slice.
 fn blocks() {
     let records = records();
     let list = records.map(|record| to_library_record(&record));
@@ -254,7 +238,7 @@ fn blocks() {
             let area = black_box(&mut area);
             // SAFETY: pointer and length are those of the area.
             unsafe {
-                raw::mtr_write_block(
+                raw::mtr_by_value_write_block(
                     area.as_mut_ptr(),
                     area.len(),
                     7,
@@ -267,7 +251,7 @@ fn blocks() {
             write_block(black_box(&mut own), 7, black_box(&records));
         }),
     ];
-    line("write a full block", "", sides, [Some(1.2), None]);
+    line("write a full block", "", sides);
 
     let sides: Vec<Side> = vec![
         Box::new(|| {
@@ -277,7 +261,7 @@ fn blocks() {
             write_block(black_box(&mut own), 7, black_box(&records));
         }),
     ];
-    line("write it from a slice", "", sides, [None; 2]);
+    line("write it from a slice", "", sides);
 
     assert_eq!(write_block(&mut own, 7, &records), 0);
     let block = own;
@@ -290,13 +274,13 @@ fn blocks() {
             let _ = black_box(decode(black_box(&block), 7, black_box(&mut found)));
         }),
     ];
-    line("read a full block", "", sides, [Some(1.2), None]);
+    line("read a full block", "", sides);
 }
 
 pub fn print() {
-    println!("{:>80}", "library against");
+    println!("{:>76}", "library against");
     println!(
-        "{:<26} {:>3} {:>9} {:>9} {:>9}   {:<15} by value",
+        "{:<26} {:>3} {:>9} {:>9} {:>9}   {:<10} by value",
         "", "n", "library", "in place", "by value", "in place"
     );
     for row in [
@@ -310,8 +294,8 @@ pub fn print() {
             row(n);
         }
     }
-    roster("roster", worn(64, false), Some(1.5));
-    roster("roster, lags falling", sloped(64, false, true), None);
-    roster("roster, lags rising", sloped(64, false, false), None);
+    roster("roster", worn(64, false));
+    roster("roster, lags falling", sloped(64, false, true));
+    roster("roster, lags rising", sloped(64, false, false));
     blocks();
 }

@@ -34,7 +34,7 @@ const HEAD: &str = r#"/*
  * The scheduler's state is a struct that the host holds. A call takes it by
  * value and hands it back with the answer, after a refusal unchanged:
  *
- *     mtr_reply reply = mtr_dispatch(state);
+ *     mtr_reply reply = mtr_by_value_dispatch(state);
  *     state = reply.state;
  *
  * An answer is MTR_ACCEPTED or one of MTR_REFUSED_*. The library holds no

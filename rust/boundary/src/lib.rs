@@ -24,7 +24,7 @@ use std::fs;
 use std::path::{Path, PathBuf};
 
 /// The command that renews the files, from the repository's root.
-pub const COMMAND: &str = "cargo run --release --manifest-path rust/Cargo.toml -p boundary";
+pub const COMMAND: &str = "cargo run --release -p boundary";
 
 /// What is refused, and where.
 #[derive(Clone, Debug, PartialEq, Eq)]
@@ -63,7 +63,7 @@ pub fn generate(root: &Path) -> Result<[(&'static str, String); 2], Error> {
     let interface = interface::resolve(&sources)?;
     Ok([
         ("include/mtr.h", header::print(&interface)),
-        ("rust/binding/src/raw.rs", declarations::print(&interface)),
+        ("rust/mtr/src/raw.rs", declarations::print(&interface)),
     ])
 }
 

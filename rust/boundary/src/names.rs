@@ -1,7 +1,7 @@
 //! The constants of the boundary: what they are called outside, and where
 //! their values stand in the sources. What the sources have as bare numbers
 //! (answers, kinds of records, states in the roster) is listed here with its
-//! value; the binding's tests try each of those on the library.
+//! value; the tests of the crate `mtr` try each of those on the library.
 
 /// Where a value comes from.
 #[derive(Clone, Copy, Debug)]
@@ -35,17 +35,18 @@ pub struct Family {
 
 /// The modules of crates/abi in the order in which they are printed, and what
 /// each is about.
-pub const SECTIONS: [(&str, &str); 3] = [
+pub const SECTIONS: [(&str, &str); 4] = [
     ("calls", "The scheduler's calls"),
     ("roster", "Accounts"),
     ("blocks", "Event blocks"),
+    ("version", "Version"),
 ];
 
 /// The prefix of an answer other than 0.
 pub const REFUSED: &str = "REFUSED_";
 
 const SCHEDULER: &str = "crates/scheduler/src/lib.rt";
-const RUN: &str = "crates/scheduler/src/run.rt";
+const RUN: &str = "crates/scheduler/src/threads.rt";
 const PRIORITY: &str = "crates/scheduler/src/priority.rt";
 const REPLAY: &str = "crates/replay/src/lib.rt";
 

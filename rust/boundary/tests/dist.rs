@@ -83,7 +83,7 @@ fn contents() {
     let (sources, others): (Vec<&String>, Vec<&String>) =
         found.iter().partition(|f| f.starts_with("rust/src/"));
     assert_eq!(others, wanted);
-    let own = files(&root.join("rust/binding/src"));
+    let own = files(&root.join("rust/mtr/src"));
     assert!(sources
         .iter()
         .map(|f| &f["rust/src/".len()..])
@@ -92,7 +92,7 @@ fn contents() {
     for (ours, theirs) in [
         ("include/mtr.h", "include/mtr.h"),
         ("target/staticlib/libabi.a", "lib/libmtr.a"),
-        ("rust/binding/src/raw.rs", "rust/src/raw.rs"),
+        ("rust/mtr/src/raw.rs", "rust/src/raw.rs"),
     ] {
         let same = fs::read(root.join(ours)).unwrap() == fs::read(folder.join(theirs)).unwrap();
         assert!(same, "{ours} and {theirs}");
@@ -133,14 +133,14 @@ fn contents() {
 const PROGRAM: &str = r#"#include <mtr.h>
 #include <stdio.h>
 int main(void) {
-    mtr_scheduler state = mtr_start(MTR_DEFAULT_THOUSANDTH, MTR_DEFAULT_INTERVAL).state;
-    state = mtr_admit(state, 5, 0, 500).state;
-    mtr_reply full = mtr_admit(state, 7, 0, 501);
-    mtr_reply run = mtr_dispatch(state);
+    mtr_scheduler state = mtr_by_value_start(MTR_DEFAULT_THOUSANDTH, MTR_DEFAULT_INTERVAL).state;
+    state = mtr_by_value_admit(state, 5, 0, 500).state;
+    mtr_reply full = mtr_by_value_admit(state, 7, 0, 501);
+    mtr_reply run = mtr_by_value_dispatch(state);
     mtr_records list = {{{MTR_KIND_DISPATCH, 0, 0, 0, 0, 0}}};
     uint8_t area[MTR_BLOCK_BYTES];
-    uint32_t written = mtr_write_block(area, sizeof area, 0, list, 1);
-    printf("%u %u %u %u %u\n", full.answer, run.thread, run.slice, written, mtr_read_block(area, sizeof area, 0).count);
+    uint32_t written = mtr_by_value_write_block(area, sizeof area, 0, list, 1);
+    printf("%u %u %u %u %u\n", full.answer, run.thread, run.slice, written, mtr_by_value_read_block(area, sizeof area, 0).count);
     return full.answer != MTR_REFUSED_NO_ROOM;
 }
 "#;
@@ -196,9 +196,9 @@ edition = \"2021\"
 [workspace]
 
 [dependencies]
-binding = { path = \"vendor/mtr/rust\" }
+mtr = { path = \"vendor/mtr/rust\" }
 ";
-    let program = "use binding::{Refusal, Scheduler};
+    let program = "use mtr::{Refusal, Scheduler};
 
 fn main() -> Result<(), Refusal> {
     let mut s = Scheduler::default();
@@ -237,10 +237,10 @@ fn failures_leave_the_folder() {
     // A repository without an archive.
     let above = folder("dist-fail");
     let root = above.join("repository");
-    for part in ["target/staticlib", "include", "rust/binding/src"] {
+    for part in ["target/staticlib", "include", "rust/mtr/src"] {
         fs::create_dir_all(root.join(part)).unwrap();
     }
-    for part in ["dist.sh", "include/mtr.h", "rust/binding/build.rs"] {
+    for part in ["dist.sh", "include/mtr.h", "rust/mtr/build.rs"] {
         fs::copy(boundary::root().join(part), root.join(part)).unwrap();
     }
     let target = above.join("dist");
@@ -286,11 +286,11 @@ fn failures_leave_the_folder() {
     // What is missing later: the header, with an earlier folder in place. In its
     // manifest nothing is left of what the tests need.
     fs::copy(boundary::root().join("target/staticlib/libabi.a"), &archive).unwrap();
-    let package = "[package]\nname = \"binding\"\n\n";
+    let package = "[package]\nname = \"mtr\"\n\n";
     let tests = "[dev-dependencies]\nmodel = { path = \"../model\" }\n\n[[test]]\nname = \"a\"\n\n";
     let library = "[lib]\ndoctest = false\n";
     fs::write(
-        root.join("rust/binding/Cargo.toml"),
+        root.join("rust/mtr/Cargo.toml"),
         [package, tests, library].concat(),
     )
     .unwrap();

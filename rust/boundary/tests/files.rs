@@ -136,7 +136,7 @@ fn asserted_in_c() -> Layout {
 
 fn asserted_in_rust() -> Layout {
     let mut found = Layout::new();
-    let text = committed("rust/binding/src/raw.rs");
+    let text = committed("rust/mtr/src/raw.rs");
     for layout in text.split("\nlayout! {\n").skip(1) {
         let mut name = String::new();
         for line in layout.lines().take_while(|line| *line != "}") {
@@ -188,7 +188,7 @@ fn both_have_the_same_constants() {
         }
     }
     let mut rust = BTreeMap::new();
-    for line in committed("rust/binding/src/raw.rs").lines() {
+    for line in committed("rust/mtr/src/raw.rs").lines() {
         let rest = line
             .strip_prefix("pub const ")
             .and_then(|rest| rest.strip_suffix(';'));
@@ -225,7 +225,7 @@ fn the_archive_has_the_functions() {
         .collect();
     present.sort_unstable();
     declared.sort_unstable();
-    assert_eq!(declared.len(), 16);
+    assert_eq!(declared.len(), 17);
     assert_eq!(present, declared);
     needed.sort_unstable();
     let libc = ["memcmp", "memcpy", "memmove", "memset"];

@@ -3,7 +3,7 @@
 use std::fs::File;
 use std::io::{self, stdout, BufWriter, Stdout, Write};
 
-use binding::{blocks, Dispatch, Entry, Event, Refusal, Scheduler, ThreadState};
+use mtr::{blocks, Dispatch, Entry, Event, Refusal, Scheduler, ThreadState};
 
 /// Makes calls, journals each one and prints its answer.
 pub struct Host {

@@ -3,7 +3,7 @@
 //! sooner or later. Every call of the scheduler is journalled into event blocks.
 //!
 //! ```text
-//! cargo run --release --manifest-path rust/Cargo.toml -p controller -- SEED JOURNAL [MILLISECONDS]
+//! cargo run --release -p controller -- SEED JOURNAL [MILLISECONDS]
 //! ```
 //!
 //! Standard output has a line for each call, as `mtrrun` prints it for the

@@ -2,7 +2,7 @@
 
 use std::io;
 
-use binding::{Dispatch, Event, Reason, Settings};
+use mtr::{Dispatch, Event, Reason, Settings};
 
 use crate::host::Host;
 

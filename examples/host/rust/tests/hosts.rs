@@ -1,6 +1,6 @@
 //! The host in C and the host in Rust: the same journal, byte by byte, and `mtrrun` prints for it what both were answered.
 
-use binding::{blocks, Event, Settings};
+use mtr::{blocks, Event, Settings};
 use std::fs;
 use std::path::{Path, PathBuf};
 use std::process::{Command, Output, Stdio};
@@ -161,7 +161,7 @@ fn compare(seed: &str, milliseconds: &str) {
     for (event, line) in events.iter().zip(&lines) {
         let answer = numbers(line)[1] as usize;
         refusals[answer] += 1;
-        accepted[binding::raw::Record::from(*event).kind as usize] += (answer == 0) as u32;
+        accepted[mtr::raw::Record::from(*event).kind as usize] += (answer == 0) as u32;
     }
     assert!(accepted[1..].iter().all(|&n| n > 0), "{accepted:?}");
     let seen: Vec<usize> = (0..21).filter(|&a| refusals[a] > 0).collect();

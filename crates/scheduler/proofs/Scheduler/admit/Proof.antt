@@ -5,8 +5,8 @@ use borrow.Author.Needs.{needs}
 use Rattle.scheduler.specs.declared.Scheduler.{Scheduler}
 use Rattle.scheduler.specs.State.{threadAt}
 use Rattle.scheduler.specs.Refusals.{admit, refusal}
-use Rattle.scheduler.proofs.Replies.{rest}
-use Rattle.scheduler.proofs.ReserveCodes.{admit-fits, admit-room, admit-done}
+use Rattle.scheduler.proofs.threads.Replies.{rest}
+use Rattle.scheduler.proofs.groups.Codes.{admit-fits, admit-room, admit-done}
 use Rattle.scheduler.proofs.Scheduler.admit.Statement.{statement}
 use Rattle.scheduler.proofs.Scheduler.admit.Tie as tie
 

@@ -4,7 +4,7 @@ use borrow.Author.Needs.{needs}
 use Rattle.scheduler.specs.declared.Scheduler.{Scheduler}
 use Rattle.scheduler.specs.State.{withGroup}
 use Rattle.scheduler.specs.Refusals.{closeGroup, refusal}
-use Rattle.scheduler.proofs.ReserveCodes.{close-done}
+use Rattle.scheduler.proofs.groups.Codes.{close-done}
 use Rattle.scheduler.proofs.Scheduler.close.Statement.{statement}
 use Rattle.scheduler.proofs.Scheduler.close.Tie as tie
 

@@ -8,13 +8,13 @@ use lib.ListN.{getD, take, drop}
 use lib.Dec.{eqb, ltb}
 use borrow.Author.Needs.{needs}
 use borrow.Author.Tests.{eq-eqb, ne-eqb, ltb-true, ltb-false}
-use Rattle.order.specs.Lists.{passed}
-use Rattle.order.proofs.Bools.{cases}
+use Rattle.base.specs.Lists.{passed}
+use Rattle.base.proofs.Bools.{cases}
 use Rattle.order.proofs.Queue.{stop, go, end}
 use Rattle.scheduler.specs.declared.Scheduler.{Scheduler}
 use Rattle.scheduler.specs.State.{threadAt, runnableAt, withRun}
 use Rattle.scheduler.specs.Refusals.{dispatch, refusal}
-use Rattle.scheduler.proofs.Dispatch.{dispatch-number, Looking, looking, look-small, look-most, dispatch-done}
+use Rattle.scheduler.proofs.threads.Dispatch.{dispatch-number, Looking, looking, look-small, look-most, dispatch-done}
 use Rattle.scheduler.proofs.Scheduler.dispatch_given.Statement.{statement}
 use Rattle.scheduler.proofs.Scheduler.dispatch_given.Tie as tie
 

@@ -4,7 +4,7 @@ use borrow.Author.Needs.{needs}
 use Rattle.scheduler.specs.declared.Scheduler.{Scheduler}
 use Rattle.scheduler.specs.State.{withGroup}
 use Rattle.scheduler.specs.Refusals.{Call, openGroup, refusal}
-use Rattle.scheduler.proofs.ReserveCodes.{open-fits, open-done}
+use Rattle.scheduler.proofs.groups.Codes.{open-fits, open-done}
 use Rattle.scheduler.proofs.Scheduler.open.Statement.{statement}
 use Rattle.scheduler.proofs.Scheduler.open.Tie as tie
 

@@ -5,7 +5,7 @@ use borrow.Author.Needs.{needs}
 use borrow.Author.Tests.{eqb-true}
 use Rattle.scheduler.specs.declared.Scheduler.{Scheduler}
 use Rattle.scheduler.specs.Refusals.{remove, refusal}
-use Rattle.scheduler.proofs.Replies.{remove-number, remove-listed, remove-done}
+use Rattle.scheduler.proofs.threads.Replies.{remove-number, remove-listed, remove-done}
 use Rattle.scheduler.proofs.Scheduler.remove_given.Statement.{statement}
 use Rattle.scheduler.proofs.Scheduler.remove_given.Tie as tie
 

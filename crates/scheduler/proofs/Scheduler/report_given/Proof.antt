@@ -5,10 +5,10 @@ use mathlib.Core.Bool.{true}
 use lib.Dec.{eqb}
 use borrow.Author.Needs.{needs}
 use borrow.Author.Tests.{eqb-true}
-use Rattle.order.proofs.Bools.{and-l, is, holds}
+use Rattle.base.proofs.Bools.{and-l, is, holds}
 use Rattle.scheduler.specs.declared.Scheduler.{Scheduler}
 use Rattle.scheduler.specs.Refusals.{report, refusal}
-use Rattle.scheduler.proofs.Report.{report-number, Ready, ready, report-done}
+use Rattle.scheduler.proofs.threads.Report.{report-number, Ready, ready, report-done}
 use Rattle.scheduler.proofs.Scheduler.report_given.Statement.{statement}
 use Rattle.scheduler.proofs.Scheduler.report_given.Tie as tie
 

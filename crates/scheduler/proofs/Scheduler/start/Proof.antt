@@ -3,7 +3,7 @@ use mathlib.Core.Path.{_≡_, sym, _∙_}
 use native.Mathlib.Omega.{arith}
 use borrow.Author.Needs.{needs}
 use Rattle.scheduler.specs.Refusals.{startRefusal}
-use Rattle.scheduler.proofs.Started.{start-bounds, start-done, start-refused}
+use Rattle.scheduler.proofs.threads.Started.{start-bounds, start-done, start-refused}
 use Rattle.scheduler.proofs.Scheduler.start.Statement.{statement}
 use Rattle.scheduler.proofs.Scheduler.start.Tie as tie
 

@@ -4,12 +4,12 @@ use mathlib.Core.Bool.{true}
 use Prim.Native.Nat.{ℕ}
 use borrow.Author.Tests.{not-true, not-false}
 use borrow.Author.Needs.{needs}
-use Rattle.order.proofs.Bools.{holds}
+use Rattle.base.proofs.Bools.{holds}
 use Rattle.scheduler.specs.declared.Scheduler.{Scheduler}
 use Rattle.scheduler.specs.State.{openAt}
 use Rattle.scheduler.specs.Sound.{sound}
 use Rattle.scheduler.specs.Answers.{subtreeOf}
-use Rattle.scheduler.proofs.ReserveTree.{total-unsound, total-closed, total-sum}
+use Rattle.scheduler.proofs.groups.Tree.{total-unsound, total-closed, total-sum}
 use Rattle.scheduler.proofs.Scheduler.subtree_total.Statement.{statement}
 use Rattle.scheduler.proofs.Scheduler.subtree_total.Tie as tie
 

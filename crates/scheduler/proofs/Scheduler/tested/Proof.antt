@@ -10,8 +10,8 @@ use native.Mathlib.Omega.{arith}
 use borrow.Author.Needs.{needs}
 use borrow.Author.Tests.{not-true, not-false}
 use Rattle.scheduler.specs.State.{listed}
-use Rattle.scheduler.specs.TestParts.{ListSeen, ThreadsPass, Tested}
-use Rattle.scheduler.proofs.TestWhole.{Parts, unsound, whole, shaped, settings-most, running-most}
+use Rattle.scheduler.specs.Inner.{ListSeen, ThreadsPass, Tested}
+use Rattle.scheduler.proofs.sound.Whole.{Parts, unsound, whole, shaped, settings-most, running-most}
 use Rattle.scheduler.proofs.Scheduler.tested.Statement.{statement}
 use Rattle.scheduler.proofs.Scheduler.tested.Tie as tie
 

@@ -2,7 +2,7 @@
 use mathlib.Core.Path.{_≡_, refl, _∙_}
 use borrow.Author.Needs.{needs}
 use Rattle.scheduler.specs.State.{withThread}
-use Rattle.scheduler.proofs.Replies.{wake-number, wake-done}
+use Rattle.scheduler.proofs.threads.Replies.{wake-number, wake-done}
 use Rattle.scheduler.proofs.Scheduler.wake_given.Statement.{statement}
 use Rattle.scheduler.proofs.Scheduler.wake_given.Tie as tie
 

@@ -1,6 +1,7 @@
 -- `Settings::ok` meets its contract. Assumes nothing.
 use mathlib.Core.Path.{refl}
-use Rattle.scheduler.specs.Sound.{settingsOk, within}
+use Rattle.base.specs.Checks.{within}
+use Rattle.scheduler.specs.Sound.{settingsOk}
 use Rattle.scheduler.proofs.Settings.ok.Statement.{statement}
 use Rattle.scheduler.proofs.Settings.ok.Tie as tie
 

@@ -6,7 +6,7 @@ use native.Mathlib.Omega.{arith}
 use borrow.Author.Needs.{needs}
 use borrow.Author.Tests.{leb-false}
 use lib.Dec.{leb, eqb}
-use Rattle.order.proofs.Bools.{or-false-r}
+use Rattle.base.proofs.Bools.{or-false-r}
 use Rattle.scheduler.specs.Effects.{renewed}
 use Rattle.scheduler.proofs.Thread.remaining.Statement.{statement}
 use Rattle.scheduler.proofs.Thread.remaining.Tie as tie

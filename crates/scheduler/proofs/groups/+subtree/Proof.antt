@@ -7,7 +7,7 @@ use borrow.Fn.Kinds.{In}
 use borrow.Fn.PlainCycle.{Measures, is, falls, and}
 use mathlib.Core.Path.{sym, _∙_}
 use Rattle.scheduler.proofs.Facts.{open-small}
-use Rattle.scheduler.proofs.ReserveTree.{Below, below-none, below-add, below-skip, below-child, below-most, below-end}
+use Rattle.scheduler.proofs.groups.Tree.{Below, below-none, below-add, below-skip, below-child, below-most, below-end}
 use Rattle.scheduler.proofs.groups.subtree.Reads as subtree
 use Rattle.scheduler.proofs.groups.subtree.Kinds as subtree-kinds
 use Rattle.scheduler.proofs.groups.+subtree.Lts-subtree as subtree-lts

@@ -8,7 +8,7 @@ use borrow.Author.Needs.{needs}
 use Rattle.scheduler.specs.declared.Scheduler.{Scheduler}
 use Rattle.scheduler.specs.State.{threadAt}
 use Rattle.scheduler.specs.Sound.{sound}
-use Rattle.scheduler.proofs.ReserveCodes.{amountChecks, admit-unsound, admit-high, admit-twice, admit-nowhere, admit-amount}
+use Rattle.scheduler.proofs.groups.Codes.{amountChecks, admit-unsound, admit-high, admit-twice, admit-nowhere, admit-amount}
 use Rattle.scheduler.proofs.groups.admit_code.Statement.{statement}
 use Rattle.scheduler.proofs.groups.admit_code.Tie as tie
 

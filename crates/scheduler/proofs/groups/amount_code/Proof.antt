@@ -1,8 +1,7 @@
 -- `amount_code` meets its contract.
 use borrow.Author.Tests.{lt-ltb, le-ltb, le-leb, lt-leb}
 use borrow.Author.Needs.{needs}
-use Rattle.scheduler.specs.Sound.{within}
-use Rattle.scheduler.specs.Refusals.{firstOf}
+use Rattle.base.specs.Checks.{within, firstOf}
 use Rattle.scheduler.proofs.groups.amount_code.Statement.{statement}
 use Rattle.scheduler.proofs.groups.amount_code.Tie as tie
 

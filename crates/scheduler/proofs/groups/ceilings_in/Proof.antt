@@ -2,7 +2,7 @@
 use Prim.Native.Nat.{_-_}
 use native.Mathlib.Omega.{arith}
 use borrow.Author.Needs.{needs}
-use Rattle.scheduler.proofs.Reserve.{Summed, summed-none, summed-more, summed-end}
+use Rattle.scheduler.proofs.groups.Sums.{Summed, summed-none, summed-more, summed-end}
 use Rattle.scheduler.proofs.groups.ceilings_in.Statement.{statement}
 use Rattle.scheduler.proofs.groups.ceilings_in.Tie as tie
 

@@ -3,12 +3,12 @@ use mathlib.Core.Path.{_≡_, sym, _∙_}
 use mathlib.Core.Bool.{true}
 use borrow.Author.Tests.{not-true, not-false}
 use borrow.Author.Needs.{needs}
-use Rattle.order.proofs.Bools.{holds}
+use Rattle.base.proofs.Bools.{holds}
 use Rattle.scheduler.specs.declared.Scheduler.{Scheduler}
 use Rattle.scheduler.specs.State.{openAt}
 use Rattle.scheduler.specs.Sound.{sound}
 use Rattle.scheduler.proofs.Facts.{open-small}
-use Rattle.scheduler.proofs.ReserveCodes.{close-unsound, close-root, close-closed, close-used, close-free}
+use Rattle.scheduler.proofs.groups.Codes.{close-unsound, close-root, close-closed, close-used, close-free}
 use Rattle.scheduler.proofs.groups.close_code.Statement.{statement}
 use Rattle.scheduler.proofs.groups.close_code.Tie as tie
 

@@ -1,7 +1,7 @@
 -- `free_in` meets its contract.
 use mathlib.Core.Path.{_∙_}
 use borrow.Author.Needs.{needs}
-use Rattle.scheduler.proofs.Reserve.{free-is, free-far, free-over}
+use Rattle.scheduler.proofs.groups.Sums.{free-is, free-far, free-over}
 use Rattle.scheduler.proofs.groups.free_in.Statement.{statement}
 use Rattle.scheduler.proofs.groups.free_in.Tie as tie
 

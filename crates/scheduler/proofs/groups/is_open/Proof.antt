@@ -1,6 +1,6 @@
 -- `is_open` meets its contract.
 use borrow.Author.Needs.{needs}
-use Rattle.scheduler.proofs.Reserve.{open-far, open-near}
+use Rattle.scheduler.proofs.groups.Sums.{open-far, open-near}
 use Rattle.scheduler.proofs.groups.is_open.Statement.{statement}
 use Rattle.scheduler.proofs.groups.is_open.Tie as tie
 

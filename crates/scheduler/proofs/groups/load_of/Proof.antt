@@ -4,7 +4,7 @@ use mir.Syntax.{w32}
 use mir.Val.{Fits}
 use lib.ListN.{getD}
 use borrow.Author.Needs.{needs}
-use Rattle.scheduler.proofs.Reserve.{load-is}
+use Rattle.scheduler.proofs.groups.Sums.{load-is}
 use Rattle.scheduler.proofs.groups.load_of.Statement.{statement}
 use Rattle.scheduler.proofs.groups.load_of.Tie as tie
 

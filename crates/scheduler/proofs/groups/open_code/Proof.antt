@@ -8,7 +8,7 @@ use borrow.Author.Needs.{needs}
 use Rattle.scheduler.specs.declared.Scheduler.{Scheduler}
 use Rattle.scheduler.specs.State.{openAt}
 use Rattle.scheduler.specs.Sound.{sound}
-use Rattle.scheduler.proofs.ReserveCodes.{amountChecks, open-unsound, open-orphan, open-high, open-twice, open-low, open-amount}
+use Rattle.scheduler.proofs.groups.Codes.{amountChecks, open-unsound, open-orphan, open-high, open-twice, open-low, open-amount}
 use Rattle.scheduler.proofs.groups.open_code.Statement.{statement}
 use Rattle.scheduler.proofs.groups.open_code.Tie as tie
 

@@ -1,8 +1,8 @@
 -- `reservation_of` meets its contract: each way out is one case of `mapped`.
 use borrow.Author.Tests.{le-leb, lt-leb}
 use borrow.Author.Needs.{needs}
-use Rattle.scheduler.specs.Sound.{within}
-use Rattle.scheduler.specs.Refusals.{firstOf, priorityRefusal}
+use Rattle.base.specs.Checks.{within, firstOf}
+use Rattle.scheduler.specs.Refusals.{priorityRefusal}
 use Rattle.scheduler.specs.Rule.{mapped}
 use Rattle.scheduler.specs.Answers.{mappedOf}
 use Rattle.scheduler.proofs.priority.reservation_of.Statement.{statement}

@@ -8,7 +8,7 @@ use borrow.Author.Count.{falls-down}
 use borrow.Author.Needs.{scaled-fits}
 use borrow.Author.Tests.{not-true, not-false}
 use Rattle.scheduler.specs.State.{noGroup}
-use Rattle.scheduler.proofs.TestGroups.{GroupsInv, low, inv-none, inv-skip, inv-high, inv-bad, inv-add, inv-end, sum-fits}
+use Rattle.scheduler.proofs.sound.Groups.{GroupsInv, low, inv-none, inv-skip, inv-high, inv-bad, inv-add, inv-end, sum-fits}
 use Rattle.scheduler.proofs.sound.groups_ok.Statement.{statement}
 use Rattle.scheduler.proofs.sound.groups_ok.Tie as tie
 

@@ -3,7 +3,7 @@ use Prim.Native.Nat.{_≤_, _-_}
 use borrow.Author.Needs.{needs}
 use native.Mathlib.Omega.{arith}
 use lib.ListN.{length}
-use Rattle.scheduler.proofs.TestList.{ListTo, list-none, list-add, list-high, list-twice, list-end}
+use Rattle.scheduler.proofs.sound.List.{ListTo, list-none, list-add, list-high, list-twice, list-end}
 use Rattle.scheduler.proofs.sound.list_seen.Statement.{statement}
 use Rattle.scheduler.proofs.sound.list_seen.Tie as tie
 

@@ -1,7 +1,7 @@
 -- `quota_ok` meets its contract: each return by the tests that led there; the product is at most 1000 × 1000. Assumes nothing.
 use native.Mathlib.Nat.{mul-le-mul}
 use native.Mathlib.Omega.{arith}
-use Rattle.scheduler.proofs.TestLaws.{quota-over, quota-none, quota-fits}
+use Rattle.scheduler.proofs.sound.Laws.{quota-over, quota-none, quota-fits}
 use Rattle.scheduler.proofs.sound.quota_ok.Statement.{statement}
 use Rattle.scheduler.proofs.sound.quota_ok.Tie as tie
 

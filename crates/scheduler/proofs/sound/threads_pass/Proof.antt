@@ -8,8 +8,8 @@ use borrow.Author.Count.{falls}
 use borrow.Author.Needs.{scaled-fits}
 use borrow.Author.Tests.{not-true, not-false}
 use Rattle.scheduler.specs.State.{noThread}
-use Rattle.scheduler.proofs.TestLaws.{strict, next-fits}
-use Rattle.scheduler.proofs.TestThreads.{numbers-of, ThreadsInv, inv-none, inv-skip, inv-free, inv-place, inv-status, inv-bounds, inv-home, inv-add, sum-fits, inv-idle, inv-run}
+use Rattle.scheduler.proofs.sound.Laws.{strict, next-fits}
+use Rattle.scheduler.proofs.sound.Threads.{numbers-of, ThreadsInv, inv-none, inv-skip, inv-free, inv-place, inv-status, inv-bounds, inv-home, inv-add, sum-fits, inv-idle, inv-run}
 use Rattle.scheduler.proofs.sound.threads_pass.Statement.{statement}
 use Rattle.scheduler.proofs.sound.threads_pass.Tie as tie
 

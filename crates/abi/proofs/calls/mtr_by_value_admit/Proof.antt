@@ -1,0 +1,17 @@
+use mathlib.Core.Path.{ap, _∙_}
+use Rattle.abi.specs.Calls.{replyOut}
+use borrow.Author.Needs.{needs}
+use Rattle.abi.proofs.calls.mtr_by_value_admit.Statement.{statement}
+use Rattle.abi.proofs.calls.mtr_by_value_admit.Tie as tie
+
+admit-requires : tie.Need-admit-requires
+admit-requires c κs = search needs
+
+handed-requires : tie.Need-handed-requires
+handed-requires c κs = search needs
+
+returns : tie.Need-returns
+returns c = c .handed .ensures ∙ ap replyOut (c .before .admit .ensures)
+
+pub mtr-by-value-admit-spec : {M : Type 1} → statement M
+mtr-by-value-admit-spec = tie.close (tie.spec admit-requires handed-requires returns)

@@ -1,0 +1,17 @@
+use mathlib.Core.Path.{ap, _∙_}
+use Rattle.abi.specs.Calls.{replyOut}
+use borrow.Author.Needs.{needs}
+use Rattle.abi.proofs.calls.mtr_by_value_open.Statement.{statement}
+use Rattle.abi.proofs.calls.mtr_by_value_open.Tie as tie
+
+open-requires : tie.Need-open-requires
+open-requires c κs = search needs
+
+handed-requires : tie.Need-handed-requires
+handed-requires c κs = search needs
+
+returns : tie.Need-returns
+returns c = c .handed .ensures ∙ ap replyOut (c .before .open .ensures)
+
+pub mtr-by-value-open-spec : {M : Type 1} → statement M
+mtr-by-value-open-spec = tie.close (tie.spec open-requires handed-requires returns)

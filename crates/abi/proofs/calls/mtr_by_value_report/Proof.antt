@@ -1,0 +1,17 @@
+use mathlib.Core.Path.{ap, _∙_}
+use Rattle.abi.specs.Calls.{replyOut}
+use borrow.Author.Needs.{needs}
+use Rattle.abi.proofs.calls.mtr_by_value_report.Statement.{statement}
+use Rattle.abi.proofs.calls.mtr_by_value_report.Tie as tie
+
+report-requires : tie.Need-report-requires
+report-requires c κs = search needs
+
+handed-requires : tie.Need-handed-requires
+handed-requires c κs = search needs
+
+returns : tie.Need-returns
+returns c = c .handed .ensures ∙ ap replyOut (c .before .report .ensures)
+
+pub mtr-by-value-report-spec : {M : Type 1} → statement M
+mtr-by-value-report-spec = tie.close (tie.spec report-requires handed-requires returns)

@@ -1,0 +1,17 @@
+use mathlib.Core.Path.{ap, _∙_}
+use Rattle.abi.specs.Calls.{replyOut}
+use borrow.Author.Needs.{needs}
+use Rattle.abi.proofs.calls.mtr_by_value_wake.Statement.{statement}
+use Rattle.abi.proofs.calls.mtr_by_value_wake.Tie as tie
+
+wake-requires : tie.Need-wake-requires
+wake-requires c κs = search needs
+
+handed-requires : tie.Need-handed-requires
+handed-requires c κs = search needs
+
+returns : tie.Need-returns
+returns c = c .handed .ensures ∙ ap replyOut (c .before .wake .ensures)
+
+pub mtr-by-value-wake-spec : {M : Type 1} → statement M
+mtr-by-value-wake-spec = tie.close (tie.spec wake-requires handed-requires returns)

@@ -1,0 +1,155 @@
+-- The potential of the share guarantee on bare lists and numbers. The gauge is what stands before x in the list, blocked threads too,
+-- and the slice of a running thread that does not stand there. No call raises it, and a report by another thread lowers it by the
+-- ticks charged, whether the thread stays, moves to the rear or leaves.
+use Prim.Native.Nat.{ℕ, _+_, _-_, _*_, min, _≤_}
+use mathlib.Core.Path.{_≡_, refl, sym, ap, _∙_}
+use mathlib.Core.List.{List, [], _∷_, _++_}
+use mathlib.Core.Bool.{Bool, true, false, not, cond, _||_}
+use native.Mathlib.Omega.{arith}
+use native.Mathlib.Nat.{le-refl, mul-le-mul-left, mul-le-mul-right}
+use lib.Dec.{T, eqb}
+use borrow.Author.Tests.{eqb-true, ne-eqb}
+use Rattle.base.specs.Lists.{member, without}
+use Rattle.base.proofs.Bools.{by, is, clash}
+use Rattle.base.proofs.Lists.{sumOf, ahead, before, mask, ahead-snoc, before-snoc, ahead-stay, ahead-gone, before-without, member-without, ahead-rear, sumOf-le, without-none}
+use Rattle.scheduler.specs.State.{quantum}
+use Rattle.scheduler.specs.Effects.{rear, chosen}
+use Rattle.scheduler.specs.Rule.{step}
+use Rattle.scheduler.proofs.Facts.{fits}
+
+-- al: the allotments; l: the list; r: the running thread, or 64; p: the preemption interval; sel: the threads that count
+unfoldable pub gauge : (ℕ → Bool) → ℕ → (ℕ → ℕ) → List ℕ → ℕ → ℕ → ℕ
+gauge sel x al l r p = ahead x (mask sel al) l + cond (eqb r 64 || before r x l) 0 (mask sel (λ n. min (al n) p) r)
+
+cond-zero : (b : Bool) → cond {A = ℕ} b 0 0 ≡ 0
+cond-zero true = refl
+cond-zero false = refl
+
+cond-le : (b : Bool) (n m : ℕ) → n ≤ m → cond b n 0 ≤ cond b m 0
+cond-le true n m h = h
+cond-le false n m h = le-refl 0
+
+cond-add : (b : Bool) (n d m : ℕ) → n + d ≤ m → cond b n 0 + cond b d 0 ≤ cond b m 0
+cond-add true n d m h = h
+cond-add false n d m h = le-refl 0
+
+module _ (sel : ℕ → Bool) (x : ℕ) (off : sel x ≡ false) (p : ℕ) (l : List ℕ) (in-list : T (member x l)) where
+  masked : (al al′ : ℕ → ℕ) (r : ℕ) → ((n : ℕ) → (n ≡ r → ⊥) → al′ n ≡ al n) → (n : ℕ) → (n ≡ r → ⊥) → mask sel al′ n ≡ mask sel al n
+  masked al al′ r same n a = ap (λ (z : ℕ). cond (sel n) z 0) (same n a)
+
+  -- what stands before x when one other thread has left its place
+  gone : (al al′ : ℕ → ℕ) (n : ℕ) → ((k : ℕ) → (k ≡ n → ⊥) → al′ k ≡ al k) → (n ≡ x → ⊥)
+      → ahead x (mask sel al′) (without n l) + cond (before n x l) (mask sel al n) 0 ≤ ahead x (mask sel al) l
+  gone al al′ n same ax = ahead-gone x n (mask sel al) (mask sel al′) ax (masked al al′ n same) l
+
+  -- a thread joins at the rear
+  pub gauge-join : (al al′ : ℕ → ℕ) (r n : ℕ) → ((k : ℕ) → (k ≡ n → ⊥) → al′ k ≡ al k) → (n ≡ r → ⊥) → (n ≡ x → ⊥) → T (not (member n l))
+      → gauge sel x al′ (l ++ n ∷ []) r p ≤ gauge sel x al l r p
+  unfolding gauge
+  gauge-join al al′ r n same ar ax out =
+      let a = ahead-snoc x (mask sel al′) l (n ∷ []) in-list in
+      let b = rw (without-none n l out) at (gone al al′ n same ax) in
+      rw (before-snoc r x l (n ∷ []) in-list, same r (λ z. ar (sym z)))
+      (omega arith)
+
+  -- a thread that doesn't run leaves the list
+  pub gauge-leave : (al al′ : ℕ → ℕ) (r n : ℕ) → ((k : ℕ) → (k ≡ n → ⊥) → al′ k ≡ al k) → (n ≡ r → ⊥) → (n ≡ x → ⊥)
+      → gauge sel x al′ (without n l) r p ≤ gauge sel x al l r p
+  unfolding gauge
+  gauge-leave al al′ r n same ar ax =
+      let b = gone al al′ n same ax in
+      rw (before-without n r x ar ax l, same r (λ z. ar (sym z)))
+      (omega arith)
+
+  -- a run starts: the chosen thread is x or stands before it
+  pub gauge-run : (al : ℕ → ℕ) (r : ℕ) → T (eqb r x || before r x l) → gauge sel x al l r p ≤ gauge sel x al l 64 p
+  unfolding gauge
+  gauge-run al r t = omega (arith, none)
+    where
+      or-zero : (b : Bool) → cond (b || true) 0 (mask sel (λ n. min (al n) p) r) ≡ 0
+      or-zero true = refl
+      or-zero false = refl
+
+      none : cond (eqb r 64 || before r x l) 0 (mask sel (λ n. min (al n) p) r) ≡ 0
+      none =
+          by (λ b. T (b || before r x l) → cond (eqb r 64 || before r x l) 0 (mask sel (λ n. min (al n) p) r) ≡ 0) (eqb r x)
+          (λ e _. rw (ap sel (eqb-true r x e) ∙ off) (cond-zero (eqb r 64 || before r x l)))
+          (λ e u. rw (is (before r x l) u) (or-zero (eqb r 64)))
+          t
+
+  -- another thread's run ends after t ticks. d is what it loses before x, if it stands there
+  module _ (al al′ : ℕ → ℕ) (r t : ℕ) (same : (k : ℕ) → (k ≡ r → ⊥) → al′ k ≡ al k) (other : r ≡ x → ⊥) (runs : r ≡ 64 → ⊥) (fits : t ≤ min (al r) p) where
+    -- what it lost is in what stood before x, or in what ran behind it
+    covered : (A : ℕ) → A + cond (before r x l) (cond (sel r) t 0) 0 ≤ ahead x (mask sel al) l → A + cond (sel r) t 0 ≤ gauge sel x al l r p
+    unfolding gauge
+    covered A h =
+        rw (ne-eqb r 64 runs)
+        ((elim (before r x l) as (λ b. A + cond b (cond (sel r) t 0) 0 ≤ ahead x (mask sel al) l → A + cond (sel r) t 0 ≤ ahead x (mask sel al) l + cond b 0 (mask sel (λ n. min (al n) p) r))
+        [ true ↦ λ u. omega arith | false ↦ λ u. omega (arith, cond-le (sel r) t (min (al r) p) fits) ])
+        h)
+
+    pub gauge-stay : al′ r + t ≤ al r → gauge sel x al′ l 64 p + cond (sel r) t 0 ≤ gauge sel x al l r p
+    unfolding gauge
+    gauge-stay less =
+        let c = covered (ahead x (mask sel al′) l) (ahead-stay x r (cond (sel r) t 0) (mask sel al) (mask sel al′) (masked al al′ r same) (cond-add (sel r) (al′ r) t (al r) less) l) in
+        omega arith
+
+    at-most : ahead x (mask sel al′) (without r l) + cond (before r x l) (cond (sel r) t 0) 0 ≤ ahead x (mask sel al) l
+    at-most =
+        let b = gone al al′ r same other in
+        let d : cond (before r x l) (cond (sel r) t 0) 0 ≤ cond (before r x l) (mask sel al r) 0 = cond-le (before r x l) (cond (sel r) t 0) (mask sel al r) (cond-le (sel r) t (al r) (omega arith)) in
+        omega arith
+
+    pub gauge-off : gauge sel x al′ (without r l) 64 p + cond (sel r) t 0 ≤ gauge sel x al l r p
+    unfolding gauge
+    gauge-off =
+        let c = covered (ahead x (mask sel al′) (without r l)) at-most in
+        omega arith
+
+    pub gauge-rear : gauge sel x al′ (without r l ++ r ∷ []) 64 p + cond (sel r) t 0 ≤ gauge sel x al l r p
+    unfolding gauge
+    gauge-rear =
+        let c = covered (ahead x (mask sel al′) (without r l)) at-most in
+        let a = ahead-snoc x (mask sel al′) (without r l) (r ∷ []) (rw (member-without r x other l) in-list) in
+        omega arith
+
+  -- x's own run ends
+  module _ (al al′ : ℕ → ℕ) (same : (k : ℕ) → (k ≡ x → ⊥) → al′ k ≡ al k) where
+    pub gauge-self : gauge sel x al′ l 64 p ≤ gauge sel x al l x p
+    unfolding gauge
+    gauge-self =
+        let z : mask sel al′ x + 0 ≤ mask sel al x = rw off (le-refl 0) in
+        let c = ahead-stay x x 0 (mask sel al) (mask sel al′) (masked al al′ x same) z l in
+        omega arith
+
+    pub gauge-turn : (res : ℕ → ℕ) (m h : ℕ) → ((n : ℕ) → T (member n l) → al n ≤ res n * m) → sumOf (mask sel res) l ≤ h
+        → gauge sel x al′ (without x l ++ x ∷ []) 64 p ≤ h * m
+    unfolding gauge
+    gauge-turn res m h bound sum =
+        let c = ahead-rear x (mask sel al′) l [] in
+        let d = sumOf-le m (mask sel al′) (mask sel res) l each in
+        let e = mul-le-mul-right m sum in
+        omega arith
+      where
+        each : (n : ℕ) → T (member n l) → mask sel al′ n ≤ mask sel res n * m
+        each n u =
+            by (λ b. sel n ≡ b → cond b (al′ n) 0 ≤ cond b (res n) 0 * m) (sel n)
+            (λ e _. omega (arith, same n (λ z. clash (sel n) e (ap sel z ∙ off)), bound n u))
+            (λ e _. omega arith)
+            refl
+
+-- The three kinds of step, as numbers. G: the gauge; a: x's allotment; f m: its quantum; w: ticks of those that count; t: x's own.
+
+pub quiet-step : (f h q w G G′ a a′ : ℕ) → a′ ≡ a → G′ + w ≤ G → f * w + (f * G′ + h * (q - a′)) ≤ f * G + h * (q - a)
+quiet-step f h q w G G′ a a′ e le = rw e (omega (arith, mul-le-mul-left f le))
+
+pub run-step : (f h q t G G′ a a′ : ℕ) → a′ + t ≡ a → G′ ≤ G → f * G′ + h * (q - a′) ≤ f * G + h * (q - a) + h * t
+run-step f h q t G G′ a a′ e le =
+    let k : q - a′ ≤ q - a + t = omega arith in
+    omega (arith, mul-le-mul-left f le, mul-le-mul-left h k)
+
+pub turn-step : (f h m t G G′ a a′ : ℕ) → a′ ≡ f * m → t ≡ a → a ≤ f * m → G′ ≤ h * m → f * G′ + h * (f * m - a′) ≤ f * G + h * (f * m - a) + h * t
+turn-step f h m t G G′ a a′ e u below le =
+    let z : f * m - a′ ≡ 0 = omega arith in
+    let k : f * m ≤ f * m - a + t = omega arith in
+    rw z (omega (arith, mul-le-mul-left f le, mul-le-mul-left h k))

@@ -1,0 +1,290 @@
+-- One accepted call. The potential of x is f × (what may still run before x) + h × (what x used of its quantum); each accepted call
+-- charges those that count at most what the potential falls, and x's own ticks pay at the rate h.
+use Prim.Native.Nat.{ℕ, _+_, _-_, _*_, min, _≤_, _<_}
+use mathlib.Core.Path.{_≡_, refl, sym, ap, subst, _∙_, fun-ext}
+use mathlib.Core.List.{List, [], _∷_, _++_}
+use mathlib.Core.Bool.{Bool, true, false, not, cond, _||_}
+use native.Mathlib.Omega.{arith}
+use native.Mathlib.Nat.{le-of-eq, min-le-left}
+use lib.ListN.{length}
+use lib.Dec.{T, leb, eqb}
+use borrow.Author.Tests.{eqb-true, eqb-false, leb-false, leb-true}
+use Rattle.base.specs.Checks.{firstOf}
+use Rattle.base.specs.Lists.{member, without}
+use Rattle.base.proofs.Bools.{by, is, isn't, clash, or-false-r}
+use Rattle.base.proofs.Lists.{sumOf, before, mask, first-before}
+use Rattle.scheduler.specs.declared.Settings.{Settings}
+use Rattle.scheduler.specs.declared.Thread.{Thread}
+use Rattle.scheduler.specs.declared.Group.{Group}
+use Rattle.scheduler.specs.declared.Scheduler.{Scheduler}
+use Rattle.scheduler.specs.State.{noThread, noGroup, threadAt, admittedAt, blockedAt, runnableAt, reservationAt, allotmentAt, listed, sliceAt, withThread, withGroup, withList, withRun}
+use Rattle.scheduler.specs.Refusals.{Call, openGroup, closeGroup, admit, remove, wake, dispatch, report, checks, refusal}
+use Rattle.scheduler.specs.Effects.{rear, toRear, offList, join, newThread, wokenThread, renewed, chargedThread, charged, exited, reported, chosen, effect}
+use Rattle.scheduler.specs.Rule.{step}
+use Rattle.scheduler.specs.Stretch.{keeps, accepted, ticksOf, keepsRunnable}
+use Rattle.scheduler.proofs.Facts.{Facts, facts, in-threads, member-admitted, below-quantum, fits, take-rear, take-off, room, listed-join, thread-other, thread-same, unlisted}
+use Rattle.scheduler.proofs.Share.Gauge.{gauge, gauge-join, gauge-leave, gauge-run, gauge-stay, gauge-off, gauge-rear, gauge-self, gauge-turn, quiet-step, run-step, turn-step}
+use Rattle.scheduler.proofs.Steps.{allotment-other, charged-left, charged-full, woken-allotment}
+use Rattle.scheduler.proofs.Passed.{passes, admit-passed, remove-passed, wake-passed, dispatch-passed, report-passed}
+
+-- the potential of x, with the threads that sel picks
+unfoldable pub weight : (ℕ → Bool) → ℕ → Scheduler → ℕ
+weight sel x s = gauge sel x (allotmentAt s) (listed s) (s .running) (s .settings .interval)
+
+unfoldable pub potential : (f h : ℕ) → (ℕ → Bool) → ℕ → Scheduler → ℕ
+potential f h sel x s = f * weight sel x s + h * (f * s .settings .thousandth - allotmentAt s x)
+
+-- a step in which x is not charged, and those that count are charged w
+pub record Quiet (sel : ℕ → Bool) (x : ℕ) (s s′ : Scheduler) (w : ℕ) : Type 0 where
+  pub same-settings : s′ .settings ≡ s .settings
+  pub same-allotment : allotmentAt s′ x ≡ allotmentAt s x
+  pub lighter : weight sel x s′ + w ≤ weight sel x s
+
+pub quiet-potential : (f h : ℕ) (sel : ℕ → Bool) (x : ℕ) (s s′ : Scheduler) (w : ℕ) → Quiet sel x s s′ w
+    → f * w + potential f h sel x s′ ≤ potential f h sel x s
+unfolding potential
+quiet-potential f h sel x s s′ w k =
+    subst (λ (z : Settings). f * w + (f * weight sel x s′ + h * (f * z .thousandth - allotmentAt s′ x)) ≤ potential f h sel x s) (sym (k .same-settings))
+    (quiet-step f h (f * s .settings .thousandth) w (weight sel x s) (weight sel x s′) (allotmentAt s x) (allotmentAt s′ x) (k .same-allotment) (k .lighter))
+
+group-quiet : (sel : ℕ → Bool) (x : ℕ) (s : Scheduler) (n : ℕ) (g : Group) → Quiet sel x s (withGroup s n g) 0
+unfolding withGroup weight listed allotmentAt
+group-quiet sel x s n g = record { same-settings = refl; same-allotment = refl; lighter = omega arith }
+
+wake-quiet : (sel : ℕ → Bool) (x : ℕ) (s : Scheduler) → Facts s → (n : ℕ) → T (admittedAt s n) → Quiet sel x s (effect (wake n) s) 0
+unfolding effect weight listed withThread withList toRear
+wake-quiet sel x s k n a = record {
+  same-settings = refl;
+  same-allotment = woken-allotment s k n a x;
+  lighter = rw (fun-ext (woken-allotment s k n a)) (omega arith);
+}
+
+module _ (sel : ℕ → Bool) (x : ℕ) (off : sel x ≡ false) (s : Scheduler) (k : Facts s) (adm : T (admittedAt s x)) where
+  x-in : T (member x (listed s))
+  x-in = (k .thread x adm) .in-list
+
+  -- a thread that is not admitted is another one, does not run and is not in the list
+  fresh-x : (n : ℕ) → admittedAt s n ≡ false → n ≡ x → ⊥
+  fresh-x n e z = clash (admittedAt s n) (ap (admittedAt s) z ∙ is (admittedAt s x) adm) e
+
+  fresh-run : (n : ℕ) → n < 64 → admittedAt s n ≡ false → n ≡ s .running → ⊥
+  fresh-run n small e z =
+      clash (admittedAt s n) (ap (admittedAt s) z ∙ is (admittedAt s (s .running)) ((k .run (λ q. omega arith)) .admitted)) e
+
+  admit-quiet : (n g f : ℕ) → n < 64 → admittedAt s n ≡ false → Quiet sel x s (effect (admit n g f) s) 0
+  unfolding effect weight join withList withThread listed allotmentAt
+  admit-quiet n g f small e =
+      let t = newThread s g f in
+      let same : (j : ℕ) → (j ≡ n → ⊥) → allotmentAt (withThread s n t) j ≡ allotmentAt s j = allotment-other s n t in
+      let l : listed (join n (withThread s n t)) ≡ listed s ++ n ∷ [] =
+      listed-join (withThread s n t) (omega (arith, room s k n small (unlisted s k n e), k .order64)) n in
+      record {
+        same-settings = refl;
+        same-allotment = same x (λ z. fresh-x n e (sym z));
+        lighter =
+            subst (λ (z : List ℕ). gauge sel x (allotmentAt (withThread s n t)) z (s .running) (s .settings .interval) + 0 ≤ weight sel x s) (sym l)
+            (omega (arith, gauge-join sel x off (s .settings .interval) (listed s) x-in (allotmentAt s) (allotmentAt (withThread s n t)) (s .running) n same (fresh-run n small e) (fresh-x n e) (unlisted s k n e)));
+      }
+
+  remove-quiet : (n : ℕ) → T (admittedAt s n) → (n ≡ s .running → ⊥) → (n ≡ x → ⊥) → Quiet sel x s (effect (remove n) s) 0
+  unfolding effect weight offList withList withThread listed allotmentAt rear
+  remove-quiet n a ar ax =
+      let same : (j : ℕ) → (j ≡ n → ⊥) → allotmentAt (withThread s n noThread) j ≡ allotmentAt s j = allotment-other s n noThread in
+      let l = take-off (s .order) (s .count) n (fits s k) (k .once) ((k .thread n a) .in-list) in
+      record {
+        same-settings = refl;
+        same-allotment = same x (λ z. ax (sym z));
+        lighter =
+            subst (λ (z : List ℕ). gauge sel x (allotmentAt (withThread s n noThread)) z (s .running) (s .settings .interval) + 0 ≤ weight sel x s) (sym l)
+            (omega (arith, gauge-leave sel x off (s .settings .interval) (listed s) x-in (allotmentAt s) (allotmentAt (withThread s n noThread)) (s .running) n same ar ax));
+      }
+
+  dispatch-quiet : T (runnableAt s x) → s .running ≡ 64 → Quiet sel x s (effect dispatch s) 0
+  unfolding effect weight withRun listed allotmentAt chosen runnableAt blockedAt
+  dispatch-quiet run idle = record {
+    same-settings = refl;
+    same-allotment = refl;
+    lighter =
+        subst (λ (z : ℕ). gauge sel x (allotmentAt s) (listed s) (chosen s) (s .settings .interval) + 0 ≤ gauge sel x (allotmentAt s) (listed s) z (s .settings .interval)) (sym idle)
+        (omega (arith, gauge-run sel x off (s .settings .interval) (listed s) x-in (allotmentAt s) (chosen s) (first-before x (runnableAt s) (listed s) x-in run)));
+  }
+
+  -- a report by another thread
+  module _ (r : ℕ) (is-r : s .running ≡ r) (runs : r ≡ 64 → ⊥) (other : r ≡ x → ⊥) (reason used : ℕ) (fit : used ≤ sliceAt s r) where
+    r-adm : T (admittedAt s r)
+    r-adm = subst (λ (j : ℕ). T (admittedAt s j)) is-r ((k .run (λ z. runs (sym is-r ∙ z))) .admitted)
+
+    r-in : T (member r (listed s))
+    r-in = (k .thread r r-adm) .in-list
+
+    -- the weight before the report, with r by name
+    weight-r : weight sel x s ≡ gauge sel x (allotmentAt s) (listed s) r (s .settings .interval)
+    unfolding weight
+    weight-r = ap (λ (j : ℕ). gauge sel x (allotmentAt s) (listed s) j (s .settings .interval)) is-r
+
+    fit′ : used ≤ min (allotmentAt s r) (s .settings .interval)
+    unfolding sliceAt
+    fit′ = fit
+
+    exit-quiet : Quiet sel x s (exited r used s) (cond (sel r) used 0)
+    unfolding weight exited offList withList withRun withThread listed allotmentAt rear
+    exit-quiet =
+        let same : (j : ℕ) → (j ≡ r → ⊥) → allotmentAt (withThread s r noThread) j ≡ allotmentAt s j = allotment-other s r noThread in
+        let l = take-off (s .order) (s .count) r (fits s k) (k .once) r-in in
+        record {
+          same-settings = refl;
+          same-allotment = same x (λ z. other (sym z));
+          lighter =
+              subst (λ (z : List ℕ). gauge sel x (allotmentAt (withThread s r noThread)) z 64 (s .settings .interval) + cond (sel r) used 0 ≤ weight sel x s) (sym l)
+              (rw weight-r (gauge-off sel x off (s .settings .interval) (listed s) x-in (allotmentAt s) (allotmentAt (withThread s r noThread)) r used same other runs fit′));
+        }
+
+    rear-quiet : Quiet sel x s (toRear r (charged r reason used s)) (cond (sel r) used 0)
+    unfolding weight toRear charged withList withRun withThread listed allotmentAt rear
+    rear-quiet =
+        let t = chargedThread s reason used (threadAt s r) in
+        let same : (j : ℕ) → (j ≡ r → ⊥) → allotmentAt (withThread s r t) j ≡ allotmentAt s j = allotment-other s r t in
+        let l = take-rear (s .order) (s .count) r (fits s k) (k .once) r-in in
+        record {
+          same-settings = refl;
+          same-allotment = same x (λ z. other (sym z));
+          lighter =
+              subst (λ (z : List ℕ). gauge sel x (allotmentAt (withThread s r t)) z 64 (s .settings .interval) + cond (sel r) used 0 ≤ weight sel x s) (sym l)
+              (rw weight-r (gauge-rear sel x off (s .settings .interval) (listed s) x-in (allotmentAt s) (allotmentAt (withThread s r t)) r used same other runs fit′));
+        }
+
+    stay-quiet : renewed reason used (threadAt s r) ≡ false → Quiet sel x s (charged r reason used s) (cond (sel r) used 0)
+    unfolding weight charged withRun withThread listed allotmentAt
+    stay-quiet e =
+        let t = chargedThread s reason used (threadAt s r) in
+        let same : (j : ℕ) → (j ≡ r → ⊥) → allotmentAt (withThread s r t) j ≡ allotmentAt s j = allotment-other s r t in
+        record {
+          same-settings = refl;
+          same-allotment = same x (λ z. other (sym z));
+          lighter = rw weight-r (gauge-stay sel x off (s .settings .interval) (listed s) x-in (allotmentAt s) (allotmentAt (withThread s r t)) r used same other runs fit′ (le-of-eq (charged-left s r reason used (in-threads s k r r-adm) e)));
+        }
+
+    -- every way a report by another thread can end
+    report-quiet : Quiet sel x s (reported r reason used s) (cond (sel r) used 0)
+    unfolding reported
+    report-quiet =
+        by (λ b. Quiet sel x s (cond b (exited r used s) (cond (renewed reason used (threadAt s r)) (toRear r (charged r reason used s)) (charged r reason used s))) (cond (sel r) used 0)) (eqb reason 3)
+        (λ _. exit-quiet)
+        (λ _. by (λ b. renewed reason used (threadAt s r) ≡ b → Quiet sel x s (cond b (toRear r (charged r reason used s)) (charged r reason used s)) (cond (sel r) used 0)) (renewed reason used (threadAt s r))
+        (λ _ _. rear-quiet)
+        (λ e _. stay-quiet e)
+        refl)
+
+  -- a report by x, with reason 0
+  module _ (f h : ℕ) (is-x : s .running ≡ x) (is-f : reservationAt s x ≡ f) (sum : sumOf (mask sel (reservationAt s)) (listed s) ≤ h) (used : ℕ) (fit : used ≤ sliceAt s x) where
+    bound : allotmentAt s x ≤ f * s .settings .thousandth
+    bound = subst (λ (j : ℕ). allotmentAt s x ≤ j * s .settings .thousandth) is-f (below-quantum s k x adm)
+
+    weight-x : weight sel x s ≡ gauge sel x (allotmentAt s) (listed s) x (s .settings .interval)
+    unfolding weight
+    weight-x = ap (λ (j : ℕ). gauge sel x (allotmentAt s) (listed s) j (s .settings .interval)) is-x
+
+    self-stay : renewed 0 used (threadAt s x) ≡ false → potential f h sel x (charged x 0 used s) ≤ potential f h sel x s + h * used
+    unfolding weight potential charged withRun withThread listed allotmentAt
+    self-stay e =
+        let t = chargedThread s 0 used (threadAt s x) in
+        rw weight-x
+        (run-step f h (f * s .settings .thousandth) used (gauge sel x (allotmentAt s) (listed s) x (s .settings .interval)) (gauge sel x (allotmentAt (withThread s x t)) (listed s) 64 (s .settings .interval)) (allotmentAt s x) (allotmentAt (withThread s x t) x)
+        (charged-left s x 0 used (in-threads s k x adm) e)
+        (gauge-self sel x off (s .settings .interval) (listed s) x-in (allotmentAt s) (allotmentAt (withThread s x t)) (allotment-other s x t)))
+
+    -- the whole allotment was used
+    used-up : renewed 0 used (threadAt s x) ≡ true → used ≡ allotmentAt s x
+    unfolding renewed allotmentAt sliceAt
+    used-up e = omega (arith, leb-true ((threadAt s x) .allotment) used e, min-le-left ((threadAt s x) .allotment) (s .settings .interval), fit)
+
+    each : (n : ℕ) → T (member n (listed s)) → allotmentAt s n ≤ reservationAt s n * s .settings .thousandth
+    each n u = below-quantum s k n (member-admitted s k n u)
+
+    self-turn : renewed 0 used (threadAt s x) ≡ true → potential f h sel x (toRear x (charged x 0 used s)) ≤ potential f h sel x s + h * used
+    unfolding weight potential toRear charged withList withRun withThread listed rear allotmentAt
+    self-turn e =
+        let t = chargedThread s 0 used (threadAt s x) in
+        let al = allotmentAt (withThread s x t) in
+        let l = take-rear (s .order) (s .count) x (fits s k) (k .once) x-in in
+        subst (λ (z : List ℕ). f * gauge sel x al z 64 (s .settings .interval) + h * (f * s .settings .thousandth - al x) ≤ potential f h sel x s + h * used) (sym l)
+        (turn-step f h (s .settings .thousandth) used (weight sel x s) (gauge sel x al (without x (listed s) ++ x ∷ []) 64 (s .settings .interval)) (allotmentAt s x) (al x)
+        (charged-full s x 0 used (in-threads s k x adm) e ∙ ap (λ (j : ℕ). j * s .settings .thousandth) is-f)
+        (used-up e)
+        bound
+        (gauge-turn sel x off (s .settings .interval) (listed s) x-in (allotmentAt s) al (allotment-other s x t) (reservationAt s) (s .settings .thousandth) h each sum))
+
+    self-report : potential f h sel x (reported x 0 used s) ≤ potential f h sel x s + h * used
+    unfolding reported
+    self-report =
+        by (λ b. renewed 0 used (threadAt s x) ≡ b → potential f h sel x (cond b (toRear x (charged x 0 used s)) (charged x 0 used s)) ≤ potential f h sel x s + h * used) (renewed 0 used (threadAt s x))
+        (λ e _. self-turn e)
+        (λ e _. self-stay e)
+        refl
+
+-- The bound of one accepted call.
+
+nothing : (f : ℕ) (b : Bool) → f * cond b 0 0 ≡ 0
+nothing f true = omega arith
+nothing f false = omega arith
+
+unfoldable pub StepBound : (f h : ℕ) → (ℕ → Bool) → ℕ → Scheduler → Scheduler → ℕ → ℕ → Type 0
+StepBound f h sel x s s′ last t = f * cond (sel last) t 0 + potential f h sel x s′ ≤ potential f h sel x s + h * cond (eqb last x) t 0
+
+quiet-bound : (f h : ℕ) (sel : ℕ → Bool) (x : ℕ) (s s′ : Scheduler) (last : ℕ) → Quiet sel x s s′ 0 → StepBound f h sel x s s′ last 0
+unfolding StepBound
+quiet-bound f h sel x s s′ last q =
+    omega (arith, quiet-potential f h sel x s s′ 0 q, nothing f (sel last), nothing h (eqb last x))
+
+-- x is protected in the state
+pub record Guarded (f : ℕ) (x : ℕ) (s : Scheduler) : Type 0 where
+  pub admitted : T (admittedAt s x)
+  pub runnable : T (runnableAt s x)
+  pub reserved : reservationAt s x ≡ f
+
+module _ (f h : ℕ) (sel : ℕ → Bool) (x : ℕ) (off : sel x ≡ false) (s : Scheduler) (last : ℕ) (attributed : (s .running ≡ 64 → ⊥) → s .running ≡ last)
+    (guard : Guarded f x s) (sum : sumOf (mask sel (reservationAt s)) (listed s) ≤ h) where
+  report-bound : (reason used : ℕ) → Facts s → firstOf (checks (report reason used) s) ≡ 0 → T (keepsRunnable x last (report reason used))
+      → StepBound f h sel x s (reported (s .running) reason used s) last used
+  unfolding StepBound checks keeps
+  report-bound reason used k e keep =
+      let ok = report-passed s reason used e in
+      let runs = ok .0 in
+      let fit = ok .1 in
+      let is-last = attributed runs in
+      by (λ b. T (not b || eqb reason 0) → eqb last x ≡ b → f * cond (sel last) used 0 + potential f h sel x (reported (s .running) reason used s) ≤ potential f h sel x s + h * cond b used 0) (eqb last x)
+      (λ q u _.
+      let is-x : s .running ≡ x = is-last ∙ eqb-true last x q in
+      let off′ : sel last ≡ false = ap sel (eqb-true last x q) ∙ off in
+      let z : reason ≡ 0 = eqb-true reason 0 (is (eqb reason 0) u) in
+      let b = self-report sel x off s k (guard .admitted) f h is-x (guard .reserved) sum used (subst (λ (j : ℕ). used ≤ sliceAt s j) is-x fit) in
+      rw off′ (subst (λ (j : ℕ). f * 0 + potential f h sel x (reported j reason used s) ≤ potential f h sel x s + h * used) (sym is-x)
+      (subst (λ (j : ℕ). f * 0 + potential f h sel x (reported x j used s) ≤ potential f h sel x s + h * used) (sym z) (omega arith))))
+      (λ q u _.
+      let ne : s .running ≡ x → ⊥ = λ w. eqb-false last x q (sym is-last ∙ w) in
+      let b = quiet-potential f h sel x s (reported (s .running) reason used s) (cond (sel (s .running)) used 0) (report-quiet sel x off s k (guard .admitted) (s .running) refl runs ne reason used fit) in
+      rw (← is-last) (omega arith))
+      keep
+      refl
+
+  pub step-bound : (c : Call) → refusal c s ≡ 0 → T (keepsRunnable x last c) → StepBound f h sel x s (effect c s) last (ticksOf c)
+  unfolding effect checks keeps ticksOf
+  step-bound (openGroup n p c) e keep = quiet-bound f h sel x s (effect (openGroup n p c) s) last (group-quiet sel x s n (record { ceiling = c; parent = p; opened = 1 }))
+  step-bound (closeGroup n) e keep = quiet-bound f h sel x s (effect (closeGroup n) s) last (group-quiet sel x s n noGroup)
+  step-bound (admit n g d) e keep =
+      let ok = passes (admit n g d) s e in
+      let c = admit-passed s n g d (ok .1) in
+      quiet-bound f h sel x s (effect (admit n g d) s) last (admit-quiet sel x off s (facts s (ok .0)) (guard .admitted) n g d (c .0) (c .1))
+  step-bound (remove n) e keep =
+      let ok = passes (remove n) s e in
+      let c = remove-passed s n (ok .1) in
+      quiet-bound f h sel x s (effect (remove n) s) last
+      (remove-quiet sel x off s (facts s (ok .0)) (guard .admitted) n (c .0) (c .1) (eqb-false n x (isn't (eqb n x) keep)))
+  step-bound (wake n) e keep =
+      let ok = passes (wake n) s e in
+      quiet-bound f h sel x s (effect (wake n) s) last (wake-quiet sel x s (facts s (ok .0)) n (wake-passed s n (ok .1)))
+  step-bound dispatch e keep =
+      let ok = passes dispatch s e in
+      quiet-bound f h sel x s (effect dispatch s) last
+      (dispatch-quiet sel x off s (facts s (ok .0)) (guard .admitted) (guard .runnable) (dispatch-passed s (ok .1)))
+  step-bound (report reason used) e keep = report-bound reason used (facts s ((passes (report reason used) s e) .0)) ((passes (report reason used) s e) .1) keep

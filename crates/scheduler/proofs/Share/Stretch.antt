@@ -1,0 +1,87 @@
+-- The potential over a whole stretch, by induction over the list of calls: the ticks of those that count and the last potential are at
+-- most the first potential and what x's own ticks pay.
+use Prim.Native.Nat.{ℕ, _+_, _*_, _≤_}
+use mathlib.Core.Path.{_≡_, refl, _∙_}
+use mathlib.Core.List.{List, [], _∷_}
+use mathlib.Core.Bool.{Bool, false, cond}
+use native.Mathlib.Omega.{arith}
+use lib.Dec.{T, eqb}
+use borrow.Author.Tests.{eqb-true}
+use Rattle.base.proofs.Bools.{by, and-l, and-r, is}
+use Rattle.base.proofs.Lists.{sumOf, mask}
+use Rattle.scheduler.specs.declared.Scheduler.{Scheduler}
+use Rattle.scheduler.specs.State.{admittedAt, reservationAt, listed}
+use Rattle.scheduler.specs.Sound.{sound}
+use Rattle.scheduler.specs.Refusals.{Call, report, refusal}
+use Rattle.scheduler.specs.Effects.{chosen, effect}
+use Rattle.scheduler.specs.Rule.{Reply, isDispatch, accept, refuse, step}
+use Rattle.scheduler.specs.Stretch.{Event, trace, final, accepted, ticksOf, named, ticksIn, throughout, keepsRunnable, keepsAdmitted}
+use Rattle.scheduler.proofs.Passed.{passes}
+use Rattle.scheduler.proofs.Share.Step.{potential, Guarded, StepBound, step-bound}
+use Rattle.scheduler.proofs.Share.Keep.{Held, held, running-named, runnable-admitted}
+
+pub record Reserved (g y : ℕ) (s : Scheduler) : Type 0 where
+  pub admitted : T (admittedAt s y)
+  pub reserved : reservationAt s y ≡ g
+
+-- the thread that a report counts for is the one that runs
+abbrev pub Attributed : ℕ → Scheduler → Type 0
+Attributed last s = (s .running ≡ 64 → ⊥) → s .running ≡ last
+
+-- the events of a call with a given reply, and of the calls after it
+abbrev pub events : Call → List Call → Reply → List Event
+events c cs r = record { call = c; reply = r } ∷ trace (r .state) cs
+
+-- what a stretch from s to z owes: the others' ticks and what is left of the potential
+unfoldable pub Bound : (f h : ℕ) → (ℕ → Bool) → (x y : ℕ) → Scheduler → Scheduler → ℕ → List Event → Type 0
+Bound f h sel x y s z last es =
+    T (throughout (keepsRunnable x) last es) → T (throughout (keepsAdmitted y) last es)
+    → f * ticksIn sel last es + potential f h sel x z ≤ potential f h sel x s + h * ticksIn (λ n. eqb n x) last es
+
+-- a refused call changes nothing
+refused-bound : (f h : ℕ) (sel : ℕ → Bool) (x y : ℕ) (s : Scheduler) (last : ℕ) (c : Call) (cs : List Call) (k : ℕ) → eqb k 0 ≡ false
+    → Bound f h sel x y s (final s cs) last (trace s cs) → Bound f h sel x y s (final s cs) last (events c cs (refuse k s))
+unfolding Bound throughout ticksIn named accepted refuse
+refused-bound f h sel x y s last c cs k q ih =
+    rw q (λ a b. omega (arith, ih a b))
+
+module _ (f g h : ℕ) (sel : ℕ → Bool) (x y : ℕ) (off : sel x ≡ false)
+    (sum-of : (s : Scheduler) → T (sound s) → Guarded f x s → Reserved g y s → sumOf (mask sel (reservationAt s)) (listed s) ≤ h) where
+  next : ℕ → Call → Scheduler → ℕ
+  next last c s = cond (isDispatch c) (cond (isDispatch c) (chosen s) 0) last
+
+  guarded : (s : Scheduler) (last : ℕ) (c : Call) → Guarded f x s → T (keepsRunnable x last c) → Held x last c s (effect c s) → Guarded f x (effect c s)
+  guarded s last c k q u = record {
+    admitted = u .admitted (k .admitted);
+    runnable = u .runnable q (k .runnable);
+    reserved = u .reserved ∙ k .reserved;
+  }
+
+  still-reserved : (s : Scheduler) (last : ℕ) (c : Call) → Reserved g y s → Held y last c s (effect c s) → Reserved g y (effect c s)
+  still-reserved s last c k u = record { admitted = u .admitted (k .admitted); reserved = u .reserved ∙ k .reserved }
+
+  accepted-bound : (s : Scheduler) (last : ℕ) (c : Call) (cs : List Call) → refusal c s ≡ 0 → Attributed last s → Guarded f x s → Reserved g y s
+      → ((s : Scheduler) (last : ℕ) → Attributed last s → Guarded f x s → Reserved g y s → Bound f h sel x y s (final s cs) last (trace s cs))
+      → Bound f h sel x y s (final (effect c s) cs) last (events c cs (accept c s))
+  unfolding Bound throughout ticksIn named accepted accept next StepBound
+  accepted-bound s last c cs e at k r ih a b =
+      let s′ = effect c s in
+      let last′ = next last c s in
+      let keep : T (keepsRunnable x last c) = and-l (keepsRunnable x last c) (throughout (keepsRunnable x) last′ (trace s′ cs)) a in
+      let stays : T (keepsAdmitted y last c) = and-l (keepsAdmitted y last c) (throughout (keepsAdmitted y) last′ (trace s′ cs)) b in
+      let sum = sum-of s ((passes c s e) .0) k r in
+      let one : f * cond (sel last) (ticksOf c) 0 + potential f h sel x s′ ≤ potential f h sel x s + h * cond (eqb last x) (ticksOf c) 0 =
+      step-bound f h sel x off s last at k sum c e keep in
+      let rest = ih s′ last′ (running-named c s last at) (guarded s last c k keep (held x last c s e at (k .admitted) (runnable-admitted x last c keep))) (still-reserved s last c r (held y last c s e at (r .admitted) stays))
+      (and-r (keepsRunnable x last c) (throughout (keepsRunnable x) last′ (trace s′ cs)) a)
+      (and-r (keepsAdmitted y last c) (throughout (keepsAdmitted y) last′ (trace s′ cs)) b) in
+      omega (arith, one, rest)
+
+  pub stretch : (cs : List Call) (s : Scheduler) (last : ℕ) → Attributed last s → Guarded f x s → Reserved g y s → Bound f h sel x y s (final s cs) last (trace s cs)
+  unfolding trace final step Bound ticksIn accept refuse
+  stretch [] s last at k r = λ a b. omega arith
+  stretch (c ∷ cs) s last at k r =
+      by (λ b. eqb (refusal c s) 0 ≡ b → Bound f h sel x y s (final ((cond b (accept c s) (refuse (refusal c s) s)) .state) cs) last (events c cs (cond b (accept c s) (refuse (refusal c s) s)))) (eqb (refusal c s) 0)
+      (λ q _. accepted-bound s last c cs (eqb-true (refusal c s) 0 q) at k r (stretch cs))
+      (λ q _. refused-bound f h sel x y s last c cs (refusal c s) q (stretch cs s last at k r))
+      refl

@@ -1,0 +1,386 @@
+-- Wake, admit, remove, dispatch and report each keep a state sound: each changes one thread and the list, and Change does the rest.
+use Prim.Native.Nat.{ℕ, _+_, _-_, _*_, _≤_, _<_}
+use mathlib.Core.Path.{_≡_, refl, sym, subst, _∙_}
+use mathlib.Core.List.{List, [], _∷_, _++_}
+use mathlib.Core.Bool.{Bool, true, false, not, cond, _&&_, _||_}
+use native.Mathlib.Omega.{arith}
+use native.Mathlib.Nat.{le-refl, mul-pos, min-le-right}
+use lib.ListN.{length, length-set}
+use lib.Seq.{set-getD}
+use lib.Dec.{T, ltb, leb, eqb, lit<, ltb→lt, lt→ltb}
+use borrow.Author.Tests.{eqb-true, eqb-false, leb-false}
+use Rattle.base.specs.Lists.{member, distinct, without, everyOf}
+use Rattle.base.proofs.Bools.{by, and-l, and-r, both, is, or-false-r}
+use Rattle.base.proofs.Lists.{member-without, everyOf-at, everyOf-without, distinct-without, member-self, everyOf-map, everyOf-snoc, member-left, member-last, distinct-snoc, first-found}
+use Rattle.scheduler.specs.declared.Thread.{Thread}
+use Rattle.scheduler.specs.declared.Scheduler.{Scheduler}
+use Rattle.scheduler.specs.State.{noThread, threadAt, groupAt, admittedAt, blockedAt, runnableAt, allotmentAt, openAt, listed, sliceAt, withThread, withList, withRun, isAdmitted, isRunnable}
+use Rattle.scheduler.specs.Sound.{load}
+use Rattle.scheduler.specs.Refusals.{admit, remove, wake, dispatch, free}
+use Rattle.scheduler.specs.Effects.{rear, toRear, offList, join, newThread, wokenThread, renewed, chargedThread, charged, exited, reported, chosen, effect}
+use Rattle.scheduler.proofs.Facts.{Fit, ThreadFacts, RunFacts, Facts, carries, settings-facts, take-rear, take-off, length-rear, room, listed-join, thread-other, thread-same, unlisted}
+use Rattle.scheduler.proofs.Passed.{not-used-up, reported-cases, AdmitOk}
+use Rattle.scheduler.proofs.Soundness.Change.{changed-facts, shareOf}
+
+-- Wake, and everything else that changes one thread and not the list.
+
+fit-woken : (s : Scheduler) (t : Thread) → Fit t (s .settings .thousandth) (s .meter) → Fit (wokenThread s t) (s .settings .thousandth) (s .meter)
+unfolding wokenThread
+fit-woken s t k = record {
+  positive = k .positive;
+  at-most = k .at-most;
+  some = k .some;
+  bounded = k .bounded;
+  anchored = omega (arith, k .anchored, k .past);
+  past = le-refl (s .meter);
+  charged = k .charged;
+  since = omega arith;
+}
+
+-- a thread in the place of another that was admitted as well
+admitted-kept : (s : Scheduler) (n : ℕ) (t : Thread) → n < length (s .threads) → T (isAdmitted t) → (j : ℕ) → T (admittedAt s j) → T (admittedAt (withThread s n t) j)
+unfolding admittedAt
+admitted-kept s n t l a j b =
+    by (λ c. eqb j n ≡ c → T (isAdmitted (threadAt (withThread s n t) j))) (eqb j n)
+    (λ e _. subst (λ (i : ℕ). T (isAdmitted (threadAt (withThread s n t) i))) (sym (eqb-true j n e)) (subst (λ (u : Thread). T (isAdmitted u)) (sym (thread-same s n t l)) a))
+    (λ e _. subst (λ (u : Thread). T (isAdmitted u)) (sym (thread-other s n t j (eqb-false j n e))) b)
+    refl
+
+runnable-kept : (s : Scheduler) (n : ℕ) (t : Thread) → n < length (s .threads) → T (isRunnable t) → (j : ℕ) → T (runnableAt s j) → T (runnableAt (withThread s n t) j)
+unfolding runnableAt blockedAt
+runnable-kept s n t l a j b =
+    by (λ c. eqb j n ≡ c → T (isRunnable (threadAt (withThread s n t) j))) (eqb j n)
+    (λ e _. subst (λ (i : ℕ). T (isRunnable (threadAt (withThread s n t) i))) (sym (eqb-true j n e)) (subst (λ (u : Thread). T (isRunnable u)) (sym (thread-same s n t l)) a))
+    (λ e _. subst (λ (u : Thread). T (isRunnable u)) (sym (thread-other s n t j (eqb-false j n e))) b)
+    refl
+
+listed-kept : (p q : ℕ → Bool) (l : List ℕ) → ((j : ℕ) → T (p j) → T (q j)) → T (everyOf (λ n. ltb n 64 && p n) l) → T (everyOf (λ n. ltb n 64 && q n) l)
+listed-kept p q l f t =
+    everyOf-map (λ n. ltb n 64 && p n) (λ n. ltb n 64 && q n) l
+    (λ j _ u. both (ltb j 64) (q j) (and-l (ltb j 64) (p j) u) (f j (and-r (ltb j 64) (p j) u))) t
+
+pub wake-facts : (s : Scheduler) → Facts s → (n : ℕ) → n < 64 → T (admittedAt s n) → Facts (effect (wake n) s)
+unfolding effect withThread listed wokenThread admittedAt
+wake-facts s k n small a =
+    let t = wokenThread s (threadAt s n) in
+    let inside : n < length (s .threads) = omega (arith, k .threads64) in
+    let q = k .thread n a in
+    let adm : T (isAdmitted t) = tt in
+    changed-facts s k n small t (withThread s n t) (record {
+      threads = refl;
+      groups = refl;
+      settings = refl;
+      meter = le-refl (s .meter);
+      meter-most = k .meter;
+      order64 = k .order64;
+      count64 = k .count64;
+      members = listed-kept (admittedAt s) (admittedAt (withThread s n t)) (listed s) (admitted-kept s n t inside adm) (k .members);
+      once = k .once;
+      others = λ j ne m. m;
+      own-list = λ _. q .in-list;
+      own-group = λ _. q .in-group;
+      own-status = omega arith;
+      own-fit = λ _. fit-woken s (threadAt s n) (q .fit);
+      room = λ g o. rw (is (isAdmitted (threadAt s n)) a) (omega (arith, carries s k g o));
+      run = λ ne.
+          let r = k .run ne in
+          record {
+            small = r .small;
+            admitted = admitted-kept s n t inside adm (s .running) (r .admitted);
+            runnable = runnable-kept s n t inside tt (s .running) (r .runnable);
+            early = r .early;
+          };
+    })
+
+-- Report: the running thread is charged.
+
+fit-charged : (s : Scheduler) (reason used : ℕ) (t : Thread) → 1 ≤ s .settings .thousandth → Fit t (s .settings .thousandth) (s .meter) → Fit (chargedThread s reason used t) (s .settings .thousandth) (s .meter + used)
+unfolding chargedThread
+fit-charged s reason used t m1 k = record {
+  positive = k .positive;
+  at-most = k .at-most;
+  some =
+      by (λ b. renewed reason used t ≡ b → 1 ≤ cond b (t .reservation * s .settings .thousandth) (t .allotment - used)) (renewed reason used t)
+      (λ _ _. mul-pos (k .positive) m1)
+      (λ e _. omega (arith, not-used-up reason used t e))
+      refl;
+  bounded =
+      elim (renewed reason used t) as (λ b. cond b (t .reservation * s .settings .thousandth) (t .allotment - used) ≤ t .reservation * s .settings .thousandth)
+      [ true ↦ le-refl (t .reservation * s .settings .thousandth) | false ↦ omega (arith, k .bounded) ];
+  anchored = elim (eqb reason 2) as (λ b. t .admission ≤ cond b (s .meter + used) (t .anchor)) [ true ↦ omega (arith, k .anchored, k .past) | false ↦ k .anchored ];
+  past = elim (eqb reason 2) as (λ b. cond b (s .meter + used) (t .anchor) ≤ s .meter + used) [ true ↦ le-refl (s .meter + used) | false ↦ omega (arith, k .past) ];
+  charged = omega (arith, k .charged, k .anchored, k .past);
+  since =
+      elim (eqb reason 2) as (λ b. cond b 0 (t .since + used) ≤ s .meter + used - cond b (s .meter + used) (t .anchor))
+      [ true ↦ omega arith | false ↦ omega (arith, k .since, k .past) ];
+}
+
+-- The other threads when n's is replaced.
+
+off-n : (s : Scheduler) (n : ℕ) (t : Thread) (j : ℕ) → (j ≡ n → ⊥) → T (admittedAt s j) → T (admittedAt (withThread s n t) j)
+unfolding admittedAt
+off-n s n t j ne b = subst (λ (u : Thread). T (isAdmitted u)) (sym (thread-other s n t j ne)) b
+
+off-n-run : (s : Scheduler) (n : ℕ) (t : Thread) (j : ℕ) → (j ≡ n → ⊥) → T (runnableAt s j) → T (runnableAt (withThread s n t) j)
+unfolding runnableAt blockedAt
+off-n-run s n t j ne b = subst (λ (u : Thread). T (isRunnable u)) (sym (thread-other s n t j ne)) b
+
+-- the list without n
+left-over : (s : Scheduler) (n : ℕ) (t : Thread) → T (everyOf (λ j. ltb j 64 && admittedAt s j) (listed s)) → T (everyOf (λ j. ltb j 64 && admittedAt (withThread s n t) j) (without n (listed s)))
+left-over s n t h =
+    everyOf-without (λ j. ltb j 64 && admittedAt s j) (λ j. ltb j 64 && admittedAt (withThread s n t) j) n (listed s)
+    (λ j ne u. both (ltb j 64) (admittedAt (withThread s n t) j) (and-l (ltb j 64) (admittedAt s j) u) (off-n s n t j ne (and-r (ltb j 64) (admittedAt s j) u))) h
+
+still-listed : (n j : ℕ) (l : List ℕ) → (j ≡ n → ⊥) → T (member j l) → T (member j (without n l))
+still-listed n j l ne m = rw (member-without n j (λ z. ne (sym z)) l) m
+
+-- Remove.
+
+pub remove-facts : (s : Scheduler) → Facts s → (n : ℕ) → n < 64 → T (admittedAt s n) → (n ≡ s .running → ⊥) → Facts (effect (remove n) s)
+unfolding effect offList withList withThread listed rear admittedAt runnableAt blockedAt
+remove-facts s k n small a ar =
+    let q = k .thread n a in
+    let fit : s .count ≤ length (s .order) = omega (arith, k .count64, k .order64) in
+    let l = take-off (s .order) (s .count) n fit (k .once) (q .in-list) in
+    changed-facts s k n small noThread (effect (remove n) s) (record {
+      threads = refl;
+      groups = refl;
+      settings = refl;
+      meter = le-refl (s .meter);
+      meter-most = k .meter;
+      order64 = length-rear (s .order) (s .count) n fit (k .once) (q .in-list) ∙ k .order64;
+      count64 = omega (arith, k .count64);
+      members = subst (λ (z : List ℕ). T (everyOf (λ j. ltb j 64 && admittedAt (withThread s n noThread) j) z)) (sym l) (left-over s n noThread (k .members));
+      once = subst (λ (z : List ℕ). T (distinct z)) (sym l) (distinct-without n (listed s) (k .once));
+      others = λ j ne m. subst (λ (z : List ℕ). T (member j z)) (sym l) (still-listed n j (listed s) ne m);
+      own-list = λ u. absurd u;
+      own-group = λ u. absurd u;
+      own-fit = λ u. absurd u;
+      own-status = omega arith;
+      room = λ g o. omega (arith, carries s k g o);
+      run = λ ne.
+          let r = k .run ne in
+          record {
+            small = r .small;
+            admitted = off-n s n noThread (s .running) (λ z. ar (sym z)) (r .admitted);
+            runnable = off-n-run s n noThread (s .running) (λ z. ar (sym z)) (r .runnable);
+            early = r .early;
+          };
+    })
+
+-- Report.
+
+module _ (s : Scheduler) (k : Facts s) (r : ℕ) (is-r : s .running ≡ r) (runs : r ≡ 64 → ⊥) (reason used : ℕ) (fit : used ≤ sliceAt s r) where
+  runner : RunFacts s
+  runner = k .run (λ z. runs (sym is-r ∙ z))
+
+  r-small : r < 64
+  r-small = subst (λ (j : ℕ). j < 64) is-r (runner .small)
+
+  r-adm : T (admittedAt s r)
+  r-adm = subst (λ (j : ℕ). T (admittedAt s j)) is-r (runner .admitted)
+
+  r-facts : ThreadFacts s r
+  r-facts = k .thread r r-adm
+
+  late : s .meter + used ≤ 10000001000000
+  unfolding sliceAt
+  late = omega (arith, runner .early, fit, min-le-right (allotmentAt s r) (s .settings .interval), (settings-facts (s .settings) (k .settings)) .3)
+
+  o-fits : s .count ≤ length (s .order)
+  o-fits = omega (arith, k .count64, k .order64)
+
+  exit-facts : Facts (exited r used s)
+  unfolding exited offList withRun withList withThread listed rear admittedAt
+  exit-facts =
+      let l = take-off (s .order) (s .count) r o-fits (k .once) (r-facts .in-list) in
+      changed-facts s k r r-small noThread (exited r used s) (record {
+        threads = refl;
+        groups = refl;
+        settings = refl;
+        meter = omega arith;
+        meter-most = late;
+        order64 = length-rear (s .order) (s .count) r o-fits (k .once) (r-facts .in-list) ∙ k .order64;
+        count64 = omega (arith, k .count64);
+        members = subst (λ (z : List ℕ). T (everyOf (λ j. ltb j 64 && admittedAt (withThread s r noThread) j) z)) (sym l) (left-over s r noThread (k .members));
+        once = subst (λ (z : List ℕ). T (distinct z)) (sym l) (distinct-without r (listed s) (k .once));
+        others = λ j ne m. subst (λ (z : List ℕ). T (member j z)) (sym l) (still-listed r j (listed s) ne m);
+        own-list = λ u. absurd u;
+        own-group = λ u. absurd u;
+        own-fit = λ u. absurd u;
+        own-status = omega arith;
+        room = λ g o. omega (arith, carries s k g o);
+        run = λ ne. absurd (ne refl);
+      })
+
+  t-new : Thread
+  t-new = chargedThread s reason used (threadAt s r)
+
+  t-adm : T (isAdmitted t-new)
+  unfolding t-new chargedThread
+  t-adm = elim (eqb reason 1) as (λ b. T (ltb 0 (cond b 2 1))) [ true ↦ tt | false ↦ tt ]
+
+  t-status : t-new .status ≤ 2
+  unfolding t-new chargedThread
+  t-status = elim (eqb reason 1) as (λ b. cond b 2 1 ≤ 2) [ true ↦ omega arith | false ↦ omega arith ]
+
+  t-fit : Fit t-new (s .settings .thousandth) (s .meter + used)
+  unfolding t-new
+  t-fit = fit-charged s reason used (threadAt s r) ((settings-facts (s .settings) (k .settings)) .0) (r-facts .fit)
+
+  t-group : T (openAt s (t-new .group))
+  unfolding t-new chargedThread
+  t-group = r-facts .in-group
+
+  t-room : (g : ℕ) → T (openAt s g) → load s g + shareOf t-new g ≤ (groupAt s g) .ceiling + shareOf (threadAt s r) g
+  unfolding t-new chargedThread admittedAt
+  t-room g o = rw (is (isAdmitted (threadAt s r)) r-adm, is (ltb 0 (cond (eqb reason 1) 2 1)) t-adm) (omega (arith, carries s k g o))
+
+  inside : r < length (s .threads)
+  inside = omega (arith, r-small, k .threads64)
+
+  stay-facts : Facts (charged r reason used s)
+  unfolding charged withRun withThread listed admittedAt t-new
+  stay-facts =
+      changed-facts s k r r-small t-new (charged r reason used s) (record {
+        threads = refl;
+        groups = refl;
+        settings = refl;
+        meter = omega arith;
+        meter-most = late;
+        order64 = k .order64;
+        count64 = k .count64;
+        members = listed-kept (admittedAt s) (admittedAt (withThread s r t-new)) (listed s) (admitted-kept s r t-new inside t-adm) (k .members);
+        once = k .once;
+        others = λ j ne m. m;
+        own-list = λ _. r-facts .in-list;
+        own-group = λ _. t-group;
+        own-fit = λ _. t-fit;
+        own-status = t-status;
+        room = t-room;
+        run = λ ne. absurd (ne refl);
+      })
+
+  rear-facts : Facts (toRear r (charged r reason used s))
+  unfolding toRear charged withList withRun withThread listed rear admittedAt t-new
+  rear-facts =
+      let l = take-rear (s .order) (s .count) r o-fits (k .once) (r-facts .in-list) in
+      let at = withThread s r t-new in
+      changed-facts s k r r-small t-new (toRear r (charged r reason used s)) (record {
+        threads = refl;
+        groups = refl;
+        settings = refl;
+        meter = omega arith;
+        meter-most = late;
+        order64 = length-rear (s .order) (s .count) r o-fits (k .once) (r-facts .in-list) ∙ k .order64;
+        count64 = k .count64;
+        members = subst (λ (z : List ℕ). T (everyOf (λ j. ltb j 64 && admittedAt at j) z)) (sym l)
+            (everyOf-snoc (λ j. ltb j 64 && admittedAt at j) r (without r (listed s)) (left-over s r t-new (k .members))
+            (both (ltb r 64) (admittedAt at r) (lt→ltb r 64 r-small) (admitted-kept s r t-new inside t-adm r r-adm)));
+        once = subst (λ (z : List ℕ). T (distinct z)) (sym l) (distinct-snoc r (without r (listed s)) (distinct-without r (listed s) (k .once)) (member-self r (listed s)));
+        others = λ j ne m. subst (λ (z : List ℕ). T (member j z)) (sym l) (member-left j r (without r (listed s)) (still-listed r j (listed s) ne m));
+        own-list = λ _. subst (λ (z : List ℕ). T (member r z)) (sym l) (member-last r (without r (listed s)));
+        own-group = λ _. t-group;
+        own-fit = λ _. t-fit;
+        own-status = t-status;
+        room = t-room;
+        run = λ ne. absurd (ne refl);
+      })
+
+  pub report-facts : Facts (reported r reason used s)
+  report-facts = reported-cases Facts r reason used s (λ _. exit-facts) (λ _. rear-facts) (λ _. stay-facts)
+
+-- Dispatch.
+
+pub dispatch-facts : (s : Scheduler) → Facts s → s .meter < 10000000000000 → Facts (effect dispatch s)
+unfolding effect withRun listed admittedAt runnableAt blockedAt chosen
+dispatch-facts s k early =
+    let t = threadAt s 0 in
+    changed-facts s k 0 (lit< tt) t (effect dispatch s) (record {
+      threads = sym (set-getD (s .threads) 0 noThread);
+      groups = refl;
+      settings = refl;
+      meter = le-refl (s .meter);
+      meter-most = k .meter;
+      order64 = k .order64;
+      count64 = k .count64;
+      members = k .members;
+      once = k .once;
+      others = λ j ne m. m;
+      own-list = λ a. (k .thread 0 a) .in-list;
+      own-group = λ a. (k .thread 0 a) .in-group;
+      own-fit = λ a. (k .thread 0 a) .fit;
+      own-status = k .status 0 (lit< tt);
+      room = λ g o. omega (arith, carries s k g o);
+      run = λ ne.
+          let c = first-found (runnableAt s) (listed s) ne in
+          let m = everyOf-at (λ n. ltb n 64 && admittedAt s n) (listed s) (k .members) (chosen s) (c .0) in
+          record {
+            small = ltb→lt (chosen s) 64 (and-l (ltb (chosen s) 64) (admittedAt s (chosen s)) m);
+            admitted = and-r (ltb (chosen s) 64) (admittedAt s (chosen s)) m;
+            runnable = c .1;
+            early = early;
+          };
+    })
+
+-- Admit.
+
+fit-new : (s : Scheduler) (g d : ℕ) → 1 ≤ d → d ≤ 1000 → 1 ≤ s .settings .thousandth → Fit (newThread s g d) (s .settings .thousandth) (s .meter)
+unfolding newThread
+fit-new s g d d1 d1000 m1 = record {
+  positive = d1;
+  at-most = d1000;
+  some = mul-pos d1 m1;
+  bounded = le-refl (d * s .settings .thousandth);
+  anchored = le-refl (s .meter);
+  past = le-refl (s .meter);
+  charged = omega arith;
+  since = omega arith;
+}
+
+admit-room : (s : Scheduler) → Facts s → (n g d : ℕ) → d ≤ free s g → admittedAt s n ≡ false
+    → (j : ℕ) → T (openAt s j) → load s j + shareOf (newThread s g d) j ≤ (groupAt s j) .ceiling + shareOf (threadAt s n) j
+unfolding newThread free
+admit-room s k n g d le fresh j o =
+    by (λ b. eqb g j ≡ b → load s j + cond b d 0 ≤ (groupAt s j) .ceiling + shareOf (threadAt s n) j) (eqb g j)
+    (λ e _. omega (arith, subst (λ (i : ℕ). d ≤ (groupAt s i) .ceiling - load s i) (eqb-true g j e) le, carries s k j o))
+    (λ e _. omega (arith, carries s k j o))
+    refl
+
+pub admit-facts : (s : Scheduler) → Facts s → (n g d : ℕ) → AdmitOk s n g d → Facts (effect (admit n g d) s)
+unfolding effect join withList withThread listed newThread admittedAt runnableAt blockedAt
+admit-facts s k n g d ok =
+    let t = newThread s g d in
+    let at = withThread s n t in
+    let out = unlisted s k n (ok .fresh) in
+    let count : s .count < 64 = room s k n (ok .small) out in
+    let l : listed (join n at) ≡ listed s ++ n ∷ [] = listed-join at (omega (arith, k .order64)) n in
+    let inside : n < length (s .threads) = omega (arith, ok .small, k .threads64) in
+    changed-facts s k n (ok .small) t (effect (admit n g d) s) (record {
+      threads = refl;
+      groups = refl;
+      settings = refl;
+      meter = le-refl (s .meter);
+      meter-most = k .meter;
+      order64 = length-set (s .order) (s .count) n ∙ k .order64;
+      count64 = omega arith;
+      members = subst (λ (z : List ℕ). T (everyOf (λ j. ltb j 64 && admittedAt at j) z)) (sym l)
+          (everyOf-snoc (λ j. ltb j 64 && admittedAt at j) n (listed s)
+          (listed-kept (admittedAt s) (admittedAt at) (listed s) (admitted-kept s n t inside tt) (k .members))
+          (both (ltb n 64) (admittedAt at n) (lt→ltb n 64 (ok .small)) (subst (λ (u : Thread). T (isAdmitted u)) (sym (thread-same s n t inside)) tt)));
+      once = subst (λ (z : List ℕ). T (distinct z)) (sym l) (distinct-snoc n (listed s) (k .once) out);
+      others = λ j ne m. subst (λ (z : List ℕ). T (member j z)) (sym l) (member-left j n (listed s) m);
+      own-list = λ _. subst (λ (z : List ℕ). T (member n z)) (sym l) (member-last n (listed s));
+      own-group = λ _. ok .opened;
+      own-fit = λ _. fit-new s g d (ok .positive) (ok .at-most) ((settings-facts (s .settings) (k .settings)) .0);
+      own-status = omega arith;
+      room = admit-room s k n g d (ok .fits-in) (ok .fresh);
+      run = λ ne.
+          let r = k .run ne in
+          record {
+            small = r .small;
+            admitted = admitted-kept s n t inside tt (s .running) (r .admitted);
+            runnable = runnable-kept s n t inside tt (s .running) (r .runnable);
+            early = r .early;
+          };
+    })

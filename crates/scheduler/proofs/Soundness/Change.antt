@@ -1,0 +1,148 @@
+-- A change of one thread keeps a state sound: what wake, admit, remove, dispatch and report share. The other threads keep their facts,
+-- the loads of the groups change by that thread's reservation alone.
+use Prim.Native.Nat.{ℕ, _+_, _≤_, _<_}
+use mathlib.Core.Path.{_≡_, refl, sym, ap, subst, _∙_}
+use mathlib.Core.List.{List}
+use mathlib.Core.Bool.{cond, _&&_}
+use native.Mathlib.Omega.{arith}
+use lib.ListN.{length, getD, set, length-set}
+use lib.Seq.{getD-set-same, getD-set-other}
+use lib.Dec.{T, ltb, eqb}
+use borrow.Author.Tests.{eqb-true, eqb-false}
+use Rattle.base.specs.Lists.{member, distinct, everyOf, sumBelow}
+use Rattle.base.proofs.Bools.{by}
+use Rattle.base.proofs.Sums.{sum-update}
+use Rattle.scheduler.specs.declared.Settings.{Settings}
+use Rattle.scheduler.specs.declared.Thread.{Thread}
+use Rattle.scheduler.specs.declared.Group.{Group}
+use Rattle.scheduler.specs.declared.Scheduler.{Scheduler}
+use Rattle.scheduler.specs.State.{noThread, noGroup, threadAt, groupAt, admittedAt, reservationAt, openAt, listed, isAdmitted, isOpen}
+use Rattle.scheduler.specs.Sound.{settingsOk, load, threadIn, childOf, reservedIn, ceilingsIn}
+use Rattle.scheduler.specs.Effects.{charged}
+use Rattle.scheduler.proofs.Facts.{Fit, ThreadFacts, GroupFacts, RunFacts, Facts, carries}
+
+pub fit-later : (t : Thread) (m meter meter′ : ℕ) → meter ≤ meter′ → Fit t m meter → Fit t m meter′
+fit-later t m meter meter′ le k = record {
+  positive = k .positive;
+  at-most = k .at-most;
+  some = k .some;
+  bounded = k .bounded;
+  anchored = k .anchored;
+  past = omega (arith, k .past);
+  charged = omega (arith, k .charged);
+  since = omega (arith, k .since);
+}
+
+-- what a thread adds to the load of group g
+abbrev pub shareOf : Thread → ℕ → ℕ
+shareOf t g = cond (isAdmitted t && eqb (t .group) g) (t .reservation) 0
+
+pub record Changed (s : Scheduler) (n : ℕ) (t : Thread) (s′ : Scheduler) : Type 0 where
+  pub threads : s′ .threads ≡ set (s .threads) n t
+  pub groups : s′ .groups ≡ s .groups
+  pub settings : s′ .settings ≡ s .settings
+  pub meter : s .meter ≤ s′ .meter
+  pub meter-most : s′ .meter ≤ 10000001000000
+  pub order64 : length (s′ .order) ≡ 64
+  pub count64 : s′ .count ≤ 64
+  pub members : T (everyOf (λ n. ltb n 64 && admittedAt s′ n) (listed s′))
+  pub once : T (distinct (listed s′))
+  pub others : (j : ℕ) → (j ≡ n → ⊥) → T (member j (listed s)) → T (member j (listed s′))
+  pub own-list : T (isAdmitted t) → T (member n (listed s′))
+  pub own-group : T (isAdmitted t) → T (openAt s (t .group))
+  pub own-fit : T (isAdmitted t) → Fit t (s .settings .thousandth) (s′ .meter)
+  pub own-status : t .status ≤ 2
+  pub room : (g : ℕ) → T (openAt s g) → load s g + shareOf t g ≤ (groupAt s g) .ceiling + shareOf (threadAt s n) g
+  pub run : (s′ .running ≡ 64 → ⊥) → RunFacts s′
+
+module _ (s : Scheduler) (k : Facts s) (n : ℕ) (small : n < 64) (t : Thread) (s′ : Scheduler) (c : Changed s n t s′) where
+  at-n : threadAt s′ n ≡ t
+  at-n = ap (λ (l : List Thread). getD l n noThread) (c .threads) ∙ getD-set-same (s .threads) n t noThread (omega (arith, k .threads64))
+
+  at-other : (j : ℕ) → (j ≡ n → ⊥) → threadAt s′ j ≡ threadAt s j
+  at-other j ne = ap (λ (l : List Thread). getD l j noThread) (c .threads) ∙ getD-set-other (s .threads) n j t noThread ne
+
+  group-same : (g : ℕ) → groupAt s′ g ≡ groupAt s g
+  group-same g = ap (λ (l : List Group). getD l g noGroup) (c .groups)
+
+  open-same : (g : ℕ) → openAt s′ g ≡ openAt s g
+  unfolding openAt
+  open-same g = ap (λ (r : Group). ltb g 16 && isOpen r) (group-same g)
+
+  opens : (g : ℕ) → T (openAt s g) → T (openAt s′ g)
+  opens g o = subst T (sym (open-same g)) o
+
+  -- the other threads
+  other-facts : (j : ℕ) → (j ≡ n → ⊥) → T (admittedAt s′ j) → ThreadFacts s′ j
+  unfolding admittedAt
+  other-facts j ne a =
+      let e = at-other j ne in
+      let q = k .thread j (subst (λ (u : Thread). T (isAdmitted u)) e a) in
+      record {
+        small = q .small;
+        in-list = c .others j ne (q .in-list);
+        in-group = subst (λ (u : Thread). T (openAt s′ (u .group))) (sym e) (opens ((threadAt s j) .group) (q .in-group));
+        fit = subst (λ (u : Thread). Fit u (s′ .settings .thousandth) (s′ .meter)) (sym e)
+            (subst (λ (z : Settings). Fit (threadAt s j) (z .thousandth) (s′ .meter)) (sym (c .settings)) (fit-later (threadAt s j) (s .settings .thousandth) (s .meter) (s′ .meter) (c .meter) (q .fit)));
+      }
+
+  own-facts : T (admittedAt s′ n) → ThreadFacts s′ n
+  unfolding admittedAt
+  own-facts a =
+      let b = subst (λ (u : Thread). T (isAdmitted u)) at-n a in
+      record {
+        small = small;
+        in-list = c .own-list b;
+        in-group = subst (λ (u : Thread). T (openAt s′ (u .group))) (sym at-n) (opens (t .group) (c .own-group b));
+        fit = subst (λ (u : Thread). Fit u (s′ .settings .thousandth) (s′ .meter)) (sym at-n) (subst (λ (z : Settings). Fit t (z .thousandth) (s′ .meter)) (sym (c .settings)) (c .own-fit b));
+      }
+
+  -- the loads
+  load-change : (g : ℕ) → load s′ g + shareOf (threadAt s n) g ≡ load s g + shareOf t g
+  unfolding load reservedIn ceilingsIn threadIn childOf admittedAt reservationAt openAt
+  load-change g =
+      let a = sum-update (λ j. shareOf (threadAt s j) g) (λ j. shareOf (threadAt s′ j) g) n (λ j ne. ap (λ (u : Thread). shareOf u g) (at-other j ne)) 64 small in
+      let b = ap (λ (u : Thread). shareOf u g) at-n in
+      let d : sumBelow (λ i. cond (openAt s′ i && ltb 0 i && eqb ((groupAt s′ i) .parent) g) ((groupAt s′ i) .ceiling) 0) 16
+      ≡ sumBelow (λ i. cond (openAt s i && ltb 0 i && eqb ((groupAt s i) .parent) g) ((groupAt s i) .ceiling) 0) 16 =
+      ap (λ (l : List Group). sumBelow (λ i. cond (ltb i 16 && isOpen (getD l i noGroup) && ltb 0 i && eqb ((getD l i noGroup) .parent) g) ((getD l i noGroup) .ceiling) 0) 16) (c .groups) in
+      omega arith
+
+  group-facts : (g : ℕ) → g < 16 → T (openAt s′ g) → GroupFacts s′ g
+  group-facts g l o =
+      let o′ = subst T (open-same g) o in
+      let q = k .group g l o′ in
+      let e = group-same g in
+      record {
+        positive = subst (λ (r : Group). 1 ≤ r .ceiling) (sym e) (q .positive);
+        at-most = subst (λ (r : Group). r .ceiling ≤ 1000) (sym e) (q .at-most);
+        parent = λ ne. (subst (λ (r : Group). r .parent < g) (sym e) ((q .parent ne) .0), subst (λ (r : Group). T (openAt s′ (r .parent))) (sym e) (opens ((groupAt s g) .parent) ((q .parent ne) .1)));
+        carries = subst (λ (r : Group). load s′ g ≤ r .ceiling) (sym e) (omega (arith, load-change g, c .room g o′));
+      }
+
+  pub changed-facts : Facts s′
+  changed-facts = record {
+    threads64 = ap length (c .threads) ∙ length-set (s .threads) n t ∙ k .threads64;
+    groups16 = ap length (c .groups) ∙ k .groups16;
+    order64 = c .order64;
+    settings = subst (λ (z : Settings). T (settingsOk z)) (sym (c .settings)) (k .settings);
+    root = opens 0 (k .root);
+    whole = ap (λ (r : Group). r .ceiling) (group-same 0) ∙ k .whole;
+    flag = λ g l. subst (λ (r : Group). r .opened ≤ 1) (sym (group-same g)) (k .flag g l);
+    group = group-facts;
+    status = λ j l.
+        by (λ b. eqb j n ≡ b → (threadAt s′ j) .status ≤ 2) (eqb j n)
+        (λ e _. subst (λ (i : ℕ). (threadAt s′ i) .status ≤ 2) (sym (eqb-true j n e)) (subst (λ (u : Thread). u .status ≤ 2) (sym at-n) (c .own-status)))
+        (λ e _. subst (λ (u : Thread). u .status ≤ 2) (sym (at-other j (eqb-false j n e))) (k .status j l))
+        refl;
+    thread = λ j a.
+        by (λ b. eqb j n ≡ b → ThreadFacts s′ j) (eqb j n)
+        (λ e _. subst (ThreadFacts s′) (sym (eqb-true j n e)) (own-facts (subst (λ (i : ℕ). T (admittedAt s′ i)) (eqb-true j n e) a)))
+        (λ e _. other-facts j (eqb-false j n e) a)
+        refl;
+    count64 = c .count64;
+    members = c .members;
+    once = c .once;
+    run = c .run;
+    meter = c .meter-most;
+  }

@@ -1,0 +1,5 @@
+pub mod Laws
+pub mod List
+pub mod Threads
+pub mod Groups
+pub mod Whole

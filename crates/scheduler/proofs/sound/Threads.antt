@@ -1,0 +1,308 @@
+-- The pass over the threads. After i threads each of them has passed its test, and the sums are their reservations. A free number
+-- passes if it does not stand in the list; an admitted thread by what `Entry` says. A thread that does not pass breaks the whole test.
+use Prim.Native.Nat.{ℕ, _+_, _*_, _-_, _≤_, _<_}
+use mathlib.Core.Path.{_≡_, refl, sym, ap, subst, _∙_}
+use mathlib.Core.List.{List}
+use mathlib.Core.Bool.{Bool, true, false, not, cond, _&&_, _||_, false≢true}
+use native.Mathlib.Omega.{arith}
+use lib.ListN.{length, getD, set, replicate, getD-replicate}
+use mir.Syntax.{w32}
+use mir.Val.{Fits}
+use lib.Dec.{T, ltb, leb, eqb, leb→le, ltb→lt, eqb→eq}
+use borrow.Author.Count.{below-none, below-more}
+use borrow.Author.Tests.{lt-ltb, le-ltb, le-leb, ltb-false, eq-eqb, ne-eqb, not-true, not-false}
+use Rattle.base.specs.Checks.{within}
+use Rattle.base.specs.Lists.{member, everyBelow, sumBelow}
+use Rattle.base.proofs.Bools.{and-l, and-r, is, holds, clash, or-false-l, or-false-r}
+use Rattle.base.proofs.Sums.{everyBelow-at, everyBelow-of, sum-more}
+use Rattle.scheduler.specs.declared.Thread.{Thread}
+use Rattle.scheduler.specs.declared.Group.{Group}
+use Rattle.scheduler.specs.declared.Scheduler.{Scheduler}
+use Rattle.scheduler.specs.State.{noThread, noGroup, threadAt, groupAt, admittedAt, runnableAt, reservationAt, allotmentAt, openAt, listed}
+use Rattle.scheduler.specs.Sound.{threadIn, reservedIn, threadOk}
+use Rattle.scheduler.specs.Inner.{given, quotaOk, accountOk, boundsOk, Marks, Small, entryOk, ThreadsPass}
+use Rattle.scheduler.proofs.sound.Laws.{same, bump, Sized, sized-none, sized-more, sized-add}
+
+-- what `boundsOk` says
+pub record Numbers (m meter : ℕ) (t : Thread) : Type 0 where
+  pub quota : quotaOk m t ≡ true
+  pub account : accountOk meter t ≡ true
+  pub low : t .group < 16
+
+pub numbers-of : (m meter : ℕ) (t : Thread) → boundsOk m meter t ≡ true → Numbers m meter t
+numbers-of m meter t e =
+    let q : Bool = quotaOk m t in
+    let a : Bool = accountOk meter t in
+    let l : Bool = ltb (t .group) 16 in
+    let z = holds (q && (a && l)) e in
+    record {
+      quota = is q (and-l q (a && l) z);
+      account = is a (and-l a l (and-r q (a && l) z));
+      low = ltb→lt (t .group) 16 (and-r a l (and-r q (a && l) z));
+    }
+
+numbers-pass : (m meter : ℕ) (t : Thread) → Numbers m meter t → boundsOk m meter t ≡ true
+numbers-pass m meter t k = rw (k .quota, k .account, lt-ltb (t .group) 16 (k .low))
+
+pub quota-most : (m : ℕ) (t : Thread) → quotaOk m t ≡ true → t .reservation ≤ 1000
+unfolding within
+quota-most m t e =
+    let f = t .reservation in
+    leb→le f 1000 (and-r (leb 1 f) (leb f 1000) (and-l (within 1 1000 f) (within 1 (f * m) (t .allotment)) (holds (quotaOk m t) e)))
+
+-- the parts of a thread's test, in the order of the code
+regroup : (p f o a w x y z : Bool) → (p && f && o && a && w && x && y && z) ≡ (p && (f && a) && o && (w && x && y && z))
+regroup false f o a w x y z = refl
+regroup true false o a w x y z = refl
+regroup true true false false w x y z = refl
+regroup true true false true w x y z = refl
+regroup true true true false w x y z = refl
+regroup true true true true w x y z = refl
+
+and-all : (b : Bool) → (b && true) ≡ b
+and-all true = refl
+and-all false = refl
+
+-- what the test says of an admitted thread
+pub record Entry (s : Scheduler) (n : ℕ) : Type 0 where
+  pub valid : (threadAt s n) .status ≤ 2
+  pub placed : member n (listed s) ≡ true
+  pub numbers : Numbers (s .settings .thousandth) (s .meter) (threadAt s n)
+  pub home : (groupAt s ((threadAt s n) .group)) .opened ≡ 1
+
+module _ (s : Scheduler) (n : ℕ) where
+  pub free-passes : (threadAt s n) .status ≡ 0 → member n (listed s) ≡ false → T (entryOk s n)
+  unfolding entryOk threadOk admittedAt
+  free-passes o e = holds (entryOk s n) (rw (o, e))
+
+  pub free-listed : (threadAt s n) .status ≡ 0 → member n (listed s) ≡ true → T (entryOk s n) → ⊥
+  unfolding entryOk threadOk admittedAt
+  free-listed o e t = rw (o, e) at t
+
+  module _ (admitted : (threadAt s n) .status ≡ 0 → ⊥) where
+    is-admitted : admittedAt s n ≡ true
+    unfolding admittedAt
+    is-admitted = lt-ltb 0 ((threadAt s n) .status) (omega (arith, admitted))
+
+    -- its test, by parts
+    test : entryOk s n ≡ (leb ((threadAt s n) .status) 2 && (member n (listed s) && quotaOk (s .settings .thousandth) (threadAt s n) && openAt s ((threadAt s n) .group) && accountOk (s .meter) (threadAt s n)))
+    unfolding entryOk threadOk reservationAt allotmentAt
+    test =
+        let t : Thread = threadAt s n in
+        rw is-admitted
+        (and-all (leb (t .status) 2 && _)
+        ∙ ap (λ (b : Bool). leb (t .status) 2 && b)
+        (regroup (member n (listed s)) (within 1 1000 (t .reservation)) (openAt s (t .group)) (within 1 (t .reservation * s .settings .thousandth) (t .allotment))
+        (leb (t .admission) (t .anchor)) (leb (t .anchor) (s .meter)) (leb (t .ticks) (s .meter - t .admission)) (leb (t .since) (s .meter - t .anchor))))
+
+    pub entry-passes : Entry s n → T (entryOk s n)
+    unfolding openAt
+    entry-passes k =
+        holds (entryOk s n)
+        (rw (
+          test,
+          le-leb ((threadAt s n) .status) 2 (k .valid),
+          k .placed,
+          k .numbers .quota,
+          lt-ltb ((threadAt s n) .group) 16 (k .numbers .low),
+          k .home,
+          k .numbers .account,
+        ))
+
+    pub entry-facts : T (entryOk s n) → Entry s n
+    unfolding openAt
+    entry-facts z =
+        let t : Thread = threadAt s n in
+        let v : Bool = leb (t .status) 2 in
+        let p : Bool = member n (listed s) in
+        let q : Bool = quotaOk (s .settings .thousandth) t in
+        let o : Bool = openAt s (t .group) in
+        let a : Bool = accountOk (s .meter) t in
+        let all : T (v && (p && q && o && a)) = subst T test z in
+        let rest = and-r v (p && q && o && a) all in
+        let front = and-l (p && q && o) a rest in
+        let home = and-r (p && q) o front in
+        record {
+          valid = leb→le (t .status) 2 (and-l v (p && q && o && a) all);
+          placed = is p (and-l p q (and-l (p && q) o front));
+          numbers = record {
+            quota = is q (and-r p q (and-l (p && q) o front));
+            account = is a (and-r (p && q && o) a rest);
+            low = ltb→lt (t .group) 16 (and-l (ltb (t .group) 16) (eqb ((groupAt s (t .group)) .opened) 1) home);
+          };
+          home = eqb→eq ((groupAt s (t .group)) .opened) 1 (and-r (ltb (t .group) 16) (eqb ((groupAt s (t .group)) .opened) 1) home);
+        }
+
+-- the reservation of thread n in group g
+unfoldable pub part : Scheduler → ℕ → ℕ → ℕ
+part s g n = cond (threadIn s g n) (reservationAt s n) 0
+
+pub record ThreadsTo (s : Scheduler) (i : ℕ) (used : List ℕ) : Type 0 where
+  pub passed : (n : ℕ) → n < i → T (entryOk s n)
+  pub sums : (g : ℕ) → g < 16 → getD used g 0 ≡ sumBelow (part s g) i
+
+pub threads-none : (s : Scheduler) → ThreadsTo s 0 (replicate 16 0)
+unfolding sumBelow
+threads-none s = record { passed = below-none (λ n. T (entryOk s n)); sums = λ g l. getD-replicate {A = ℕ} 16 g 0 0 l }
+
+module _ (s : Scheduler) (i : ℕ) (used : List ℕ) (t : ThreadsTo s i used) where
+  free-part : (threadAt s i) .status ≡ 0 → (g : ℕ) → part s g i ≡ 0
+  unfolding part threadIn admittedAt
+  free-part o g = rw o
+
+  own-part : ((threadAt s i) .status ≡ 0 → ⊥) → (g : ℕ) → part s g i ≡ cond (eqb ((threadAt s i) .group) g) ((threadAt s i) .reservation) 0
+  unfolding part threadIn reservationAt
+  own-part a g = rw (is-admitted s i a)
+
+  pub threads-skip : (threadAt s i) .status ≡ 0 → member i (listed s) ≡ false → ThreadsTo s (i + 1) used
+  threads-skip o e = record {
+    passed = below-more (λ n. T (entryOk s n)) i (t .passed) (free-passes s i o e);
+    sums = λ g l. omega (arith, t .sums g l, sum-more (part s g) i, free-part o g);
+  }
+
+  pub threads-add : length used ≡ 16 → ((threadAt s i) .status ≡ 0 → ⊥) → Entry s i
+      → ThreadsTo s (i + 1) (set used ((threadAt s i) .group) (getD used ((threadAt s i) .group) 0 + (threadAt s i) .reservation))
+  threads-add e a k = record {
+    passed = below-more (λ n. T (entryOk s n)) i (t .passed) (entry-passes s i a k);
+    sums = λ g l. omega (
+      arith,
+      t .sums g l,
+      sum-more (part s g) i,
+      own-part a g,
+      bump used ((threadAt s i) .group) ((threadAt s i) .reservation) g (omega (arith, k .numbers .low)),
+    );
+  }
+
+-- a thread that does not pass
+pub threads-fail : (s : Scheduler) (i : ℕ) → i < 64 → (T (entryOk s i) → ⊥) → (ok : Bool) (used : List ℕ) → ok ≡ false → ThreadsPass s ok used
+threads-fail s i h f ok used e =
+    let runs : Bool = eqb (s .running) 64 || runnableAt s (s .running) in
+    record {
+      test = e ∙ same false (everyBelow (entryOk s) 64 && runs) (λ z. absurd z) (λ z. absurd (f (everyBelow-at (entryOk s) 64 (and-l (everyBelow (entryOk s) 64) runs z) i h)));
+      sums = λ z. absurd (false≢true (sym e ∙ z));
+      small = λ z. absurd (false≢true (sym e ∙ z));
+    }
+
+pub threads-end : (s : Scheduler) (used : List ℕ) → ThreadsTo s 64 used → Small used → (ok : Bool) → ok ≡ (eqb (s .running) 64 || runnableAt s (s .running)) → ThreadsPass s ok used
+unfolding reservedIn part
+threads-end s used t small ok e = record {
+  test = e ∙ sym (rw (is (everyBelow (entryOk s) 64) (everyBelow-of (entryOk s) 64 (t .passed))));
+  sums = λ z. t .sums;
+  small = λ z. small;
+}
+
+-- The loop's invariant: the sums are bounded, and `ThreadsTo` holds of each state with these parts whose list `seen` marks.
+pub record ThreadsInv (threads : List Thread) (groups : List Group) (seen : List Bool) (m meter running i : ℕ) (used : List ℕ) : Type 0 where
+  pub most : i ≤ 64
+  pub sized : Sized (1000 * i) used
+  pub to : (s : Scheduler) → Marks seen (listed s) → ThreadsTo (given s threads groups m meter running) i used
+
+-- what is to be shown of a result
+abbrev pub Answers : List Thread → List Group → List Bool → ℕ → ℕ → ℕ → Bool → List ℕ → Type 0
+Answers threads groups seen m meter running ok used =
+    (s : Scheduler) → Marks seen (listed s) → ThreadsPass (given s threads groups m meter running) ok used
+
+pub inv-none : {threads : List Thread} {groups : List Group} {seen : List Bool} {m meter running : ℕ}
+    → ThreadsInv threads groups seen m meter running 0 (replicate 16 0)
+inv-none {threads} {groups} {seen} {m} {meter} {running} = record {
+  most = omega arith;
+  sized = sized-none;
+  to = λ s q. threads-none (given s threads groups m meter running);
+}
+
+module _ {threads : List Thread} {groups : List Group} {seen : List Bool} {m meter running i : ℕ} {used : List ℕ}
+    (k : ThreadsInv threads groups seen m meter running i used) (more : i < 64) where
+  pub inv-skip : (getD threads i noThread) .status ≡ 0 → getD seen i false ≡ false → ThreadsInv threads groups seen m meter running (i + 1) used
+  unfolding listed
+  inv-skip o e = record {
+    most = omega arith;
+    sized = sized-more (1000 * i) (1000 * (i + 1)) used (k .sized) (omega arith);
+    to = λ s q. threads-skip (given s threads groups m meter running) i used (k .to s q) o (sym (q i more) ∙ e);
+  }
+
+  -- a free number in the list
+  pub inv-free : (getD threads i noThread) .status ≡ 0 → getD seen i false ≡ true → {ok : Bool} {after : List ℕ} → ok ≡ false
+      → Answers threads groups seen m meter running ok after
+  unfolding listed
+  inv-free o e {ok} {after} f s q =
+      threads-fail (given s threads groups m meter running) i more (free-listed (given s threads groups m meter running) i o (sym (q i more) ∙ e)) ok after f
+
+  module _ (admitted : (getD threads i noThread) .status ≡ 0 → ⊥) where
+    -- an admitted thread that does not pass
+    fail : ((s : Scheduler) → Marks seen (listed s) → Entry (given s threads groups m meter running) i → ⊥) → {ok : Bool} {after : List ℕ} → ok ≡ false
+        → Answers threads groups seen m meter running ok after
+    fail g {ok} {after} f s q =
+        threads-fail (given s threads groups m meter running) i more (λ z. g s q (entry-facts (given s threads groups m meter running) i admitted z)) ok after f
+
+    pub inv-place : getD seen i false ≡ false → {ok : Bool} {after : List ℕ} → ok ≡ false → Answers threads groups seen m meter running ok after
+    unfolding listed
+    inv-place e = fail (λ s q z. clash (getD seen i false) (q i more ∙ z .placed) e)
+
+    pub inv-status : 2 < (getD threads i noThread) .status → {ok : Bool} {after : List ℕ} → ok ≡ false → Answers threads groups seen m meter running ok after
+    inv-status h = fail (λ s q z. absurd (omega (arith, z .valid)))
+
+    pub inv-bounds : {b : Bool} → b ≡ boundsOk m meter (getD threads i noThread) → not b ≡ true → {ok : Bool} {after : List ℕ} → ok ≡ false
+        → Answers threads groups seen m meter running ok after
+    inv-bounds {b} e n = fail (λ s q z.
+        let t = getD threads i noThread in
+        clash b (e ∙ numbers-pass m meter t (z .numbers)) (not-true b n))
+
+    pub inv-home : ((getD groups ((getD threads i noThread) .group) noGroup) .opened ≡ 1 → ⊥) → {ok : Bool} {after : List ℕ} → ok ≡ false
+        → Answers threads groups seen m meter running ok after
+    inv-home n = fail (λ s q z. n (z .home))
+
+    -- one that passes
+    module _ {b : Bool} (place : getD seen i false ≡ true) (valid : (getD threads i noThread) .status ≤ 2)
+        (bounds : b ≡ boundsOk m meter (getD threads i noThread)) (fit : b ≡ true)
+        (home : (getD groups ((getD threads i noThread) .group) noGroup) .opened ≡ 1) where
+      numbers : Numbers m meter (getD threads i noThread)
+      numbers = numbers-of m meter (getD threads i noThread) (sym bounds ∙ fit)
+
+      entry : (s : Scheduler) → Marks seen (listed s) → Entry (given s threads groups m meter running) i
+      unfolding listed
+      entry s q =
+          let t = getD threads i noThread in
+          record {
+            valid = valid;
+            placed = sym (q i more) ∙ place;
+            numbers = numbers;
+            home = home;
+          }
+
+      least : (getD threads i noThread) .reservation ≤ 1000
+      least = quota-most m (getD threads i noThread) (numbers .quota)
+
+      pub sum-fits : Fits w32 (getD used ((getD threads i noThread) .group) 0 + (getD threads i noThread) .reservation)
+      sum-fits = omega (arith, k .sized .small ((getD threads i noThread) .group) (numbers .low), least)
+
+      pub inv-add : ThreadsInv threads groups seen m meter running (i + 1)
+          (set used ((getD threads i noThread) .group) (getD used ((getD threads i noThread) .group) 0 + (getD threads i noThread) .reservation))
+      inv-add = record {
+        most = omega arith;
+        sized = sized-add (1000 * i) (1000 * (i + 1)) used (k .sized) ((getD threads i noThread) .group) ((getD threads i noThread) .reservation) (numbers .low) (omega (arith, least));
+        to = λ s q. threads-add (given s threads groups m meter running) i used (k .to s q) (k .sized .size) admitted (entry s q);
+      }
+
+-- all threads pass
+module _ {threads : List Thread} {groups : List Group} {seen : List Bool} {m meter running i : ℕ} {used : List ℕ}
+    (k : ThreadsInv threads groups seen m meter running i used) (done : 64 ≤ i) where
+  ended : (ok : Bool) → ((s : Scheduler) → ok ≡ (eqb running 64 || runnableAt (given s threads groups m meter running) running))
+      → Answers threads groups seen m meter running ok used
+  ended ok e s q =
+      let z : i ≡ 64 = omega (arith, k .most) in
+      threads-end (given s threads groups m meter running) used (subst (λ (j : ℕ). ThreadsTo (given s threads groups m meter running) j used) z (k .to s q))
+      (λ g l. omega (arith, k .sized .small g l)) ok (e s)
+
+  -- a result that is equal
+  module _ {ok : Bool} {after : List ℕ} where
+    equal : (b : Bool) → (ok ≡ b) × (after ≡ used) → Answers threads groups seen m meter running b used → Answers threads groups seen m meter running ok after
+    equal b e a =
+        subst (λ (o : Bool). Answers threads groups seen m meter running o after) (sym (e .0))
+        (subst (λ (u : List ℕ). Answers threads groups seen m meter running b u) (sym (e .1)) a)
+
+    pub inv-idle : running ≡ 64 → (ok ≡ true) × (after ≡ used) → Answers threads groups seen m meter running ok after
+    inv-idle e q = equal true q (ended true (λ s. sym (rw (eq-eqb running 64 e))))
+
+    pub inv-run : (running ≡ 64 → ⊥) → (ok ≡ eqb ((getD threads running noThread) .status) 1) × (after ≡ used) → Answers threads groups seen m meter running ok after
+    unfolding runnableAt
+    inv-run n q = equal (eqb ((getD threads running noThread) .status) 1) q (ended (eqb ((getD threads running noThread) .status) 1) (λ s. sym (rw (ne-eqb running 64 n))))

@@ -1,0 +1,230 @@
+-- The parts of the test together are `sound`. The list's test and the threads' tests meet in `entryOk`: every number in the list is
+-- that of an admitted thread just where no free number is marked. The running thread's test is shared out between the meter's part
+-- and the threads' part; a runnable thread is admitted.
+use Prim.Native.Nat.{_≤_, _<_}
+use mathlib.Core.Path.{_≡_, sym, subst}
+use mathlib.Core.List.{List}
+use mathlib.Core.Bool.{Bool, true, false, not, _&&_, _||_}
+use native.Mathlib.Omega.{arith}
+use lib.ListN.{length, length-map}
+use mir.Val.{Val}
+use denote.Laws.{Is}
+use denote.Struct.Declared.{row}
+use lib.Dec.{T, ltb, leb, eqb, ltb→lt, leb→le, le→leb, eqb→eq}
+use borrow.Author.Tests.{lt-ltb, eq-eqb, eqb-true, eqb-false}
+use Rattle.base.specs.Checks.{within}
+use Rattle.base.specs.Lists.{member, distinct, everyOf, everyBelow}
+use Rattle.base.proofs.Bools.{by, cases, and-l, and-r, both, is, holds, or-right}
+use Rattle.base.proofs.Lists.{everyOf-at, everyOf-map}
+use Rattle.base.proofs.Sums.{everyBelow-at, everyBelow-of}
+use Rattle.scheduler.specs.declared.Settings.{Settings}
+use Rattle.scheduler.specs.declared.Scheduler.{Scheduler}
+use Rattle.scheduler.specs.State.{threadAt, admittedAt, runnableAt, listed}
+use Rattle.scheduler.specs.Sound.{settingsOk, groupsOk, threadOk, listOk, runningOk, shapeOk, sound}
+use Rattle.scheduler.specs.Inner.{entryOk}
+use Rattle.scheduler.proofs.Scheduler as scheduler
+use Rattle.scheduler.proofs.sound.Laws.{same}
+
+-- m only if a
+only : (a m : Bool) → (T m → T a) → T (a || not m)
+only true m f = tt
+only false true f = f tt
+only false false f = tt
+
+if : (a m : Bool) → T (a || not m) → T m → T a
+if true m t u = tt
+if false true t u = t
+if false false t u = u
+
+-- six tests
+abbrev Six : Bool → Bool → Bool → Bool → Bool → Bool → Type 0
+Six a b c d e f = T a × T b × T c × T d × T e × T f
+
+into : (a b c d e f : Bool) → Six a b c d e f → T (a && b && c && d && e && f)
+into true true true true true f t = t .5
+into true true true true false f t = t .4
+into true true true false e f t = absurd (t .3)
+into true true false d e f t = absurd (t .2)
+into true false c d e f t = absurd (t .1)
+into false b c d e f t = absurd (t .0)
+
+out : (a b c d e f : Bool) → T (a && b && c && d && e && f) → Six a b c d e f
+out true true true true true f t = (tt, tt, tt, tt, tt, t)
+out true true true true false f t = absurd t
+out true true true false e f t = absurd t
+out true true false d e f t = absurd t
+out true false c d e f t = absurd t
+out false b c d e f t = absurd t
+
+module _ (s : Scheduler) where
+  abbrev low : Bool
+  low = everyOf (λ n. ltb n 64) (listed s)
+
+  abbrev held : Bool
+  held = everyOf (λ n. ltb n 64 && admittedAt s n) (listed s)
+
+  abbrev entries : Bool
+  entries = everyBelow (entryOk s) 64
+
+  abbrev threads : Bool
+  threads = everyBelow (threadOk s) 64
+
+  abbrev idle : Bool
+  idle = eqb (s .running) 64
+
+  abbrev runs : Bool
+  runs = idle || runnableAt s (s .running)
+
+  -- the list and the threads
+
+  held-low : T held → T low
+  held-low = everyOf-map (λ n. ltb n 64 && admittedAt s n) (λ n. ltb n 64) (listed s) (λ n u v. and-l (ltb n 64) (admittedAt s n) v)
+
+  entries-of : T threads → T held → T entries
+  unfolding entryOk
+  entries-of t h = everyBelow-of (entryOk s) 64 (λ n l.
+      both (threadOk s n) (admittedAt s n || not (member n (listed s))) (everyBelow-at (threadOk s) 64 t n l)
+      (only (admittedAt s n) (member n (listed s))
+      (λ u. and-r (ltb n 64) (admittedAt s n) (everyOf-at (λ n. ltb n 64 && admittedAt s n) (listed s) h n u))))
+
+  threads-of : T entries → T threads
+  unfolding entryOk
+  threads-of t = everyBelow-of (threadOk s) 64 (λ n l.
+      and-l (threadOk s n) (admittedAt s n || not (member n (listed s))) (everyBelow-at (entryOk s) 64 t n l))
+
+  held-of : T entries → T low → T held
+  unfolding entryOk
+  held-of t = everyOf-map (λ n. ltb n 64) (λ n. ltb n 64 && admittedAt s n) (listed s) (λ n u v.
+      both (ltb n 64) (admittedAt s n) v
+      (if (admittedAt s n) (member n (listed s))
+      (and-r (threadOk s n) (admittedAt s n || not (member n (listed s))) (everyBelow-at (entryOk s) 64 t n (ltb→lt n 64 v))) u))
+
+  -- the running thread
+
+  pub record Runs : Type 0 where
+    pub number : T (leb (s .running) 64)
+    pub early : T (idle || ltb (s .meter) 10000000000000)
+    pub runnable : T runs
+
+  runs-of : T (runningOk s) → Runs
+  unfolding runningOk
+  runs-of z =
+      cases idle
+      (λ e. record {
+        number = le→leb (s .running) 64 (omega (arith, eqb-true (s .running) 64 e));
+        early = rw e tt;
+        runnable = rw e tt;
+      })
+      (λ e.
+      let n : Bool = ltb (s .running) 64 in
+      let a : Bool = admittedAt s (s .running) in
+      let r : Bool = runnableAt s (s .running) in
+      let m : Bool = ltb (s .meter) 10000000000000 in
+      let all : T (n && a && r && m) = subst (λ (b : Bool). T (b || (n && a && r && m))) e z in
+      let front = and-l (n && a && r) m all in
+      record {
+        number = le→leb (s .running) 64 (omega (arith, ltb→lt (s .running) 64 (and-l n a (and-l (n && a) r front))));
+        early = or-right idle m (and-r (n && a && r) m all);
+        runnable = or-right idle r (and-r (n && a) r front);
+      })
+
+  running-of : Runs → T (runningOk s)
+  unfolding runningOk runnableAt admittedAt
+  running-of k =
+      by (λ b. T (b || (ltb (s .running) 64 && admittedAt s (s .running) && runnableAt s (s .running) && ltb (s .meter) 10000000000000))) idle
+      (λ e. tt)
+      (λ e.
+      let m : Bool = ltb (s .meter) 10000000000000 in
+      let one : T (runnableAt s (s .running)) = subst (λ (b : Bool). T (b || runnableAt s (s .running))) e (k .runnable) in
+      let status : (threadAt s (s .running)) .status ≡ 1 = eqb→eq ((threadAt s (s .running)) .status) 1 one in
+      let below : s .running < 64 = omega (arith, leb→le (s .running) 64 (k .number), eqb-false (s .running) 64 e) in
+      rw (lt-ltb (s .running) 64 below, status) (subst (λ (b : Bool). T (b || m)) e (k .early)))
+
+  -- the whole
+
+  pub record Parts : Type 0 where
+    pub settings : settingsOk (s .settings) ≡ true
+    pub meter : (leb (s .meter) 10000001000000 && leb (s .running) 64 && (idle || ltb (s .meter) 10000000000000)) ≡ true
+    pub few : s .count ≤ 64
+    pub list : (low && distinct (listed s)) ≡ true
+    pub threads : (entries && runs) ≡ true
+    pub groups : groupsOk s ≡ true
+
+  parts-of : T (sound s) → Parts
+  unfolding sound listOk
+  parts-of z =
+      let few : Bool = leb (s .count) 64 in
+      let once : Bool = distinct (listed s) in
+      let list : Bool = few && held && once in
+      let most : Bool = leb (s .meter) 10000001000000 in
+      let number : Bool = leb (s .running) 64 in
+      let early : Bool = idle || ltb (s .meter) 10000000000000 in
+      let rest : Bool = shapeOk s && settingsOk (s .settings) && groupsOk s && threads && list && runningOk s in
+      let q = out (shapeOk s) (settingsOk (s .settings)) (groupsOk s) threads list (runningOk s) (and-l rest most z) in
+      let all = and-r few held (and-l (few && held) once (q .4)) in
+      let k = runs-of (q .5) in
+      record {
+        settings = is (settingsOk (s .settings)) (q .1);
+        meter = is (most && number && early) (both (most && number) early (both most number (and-r rest most z) (k .number)) (k .early));
+        few = leb→le (s .count) 64 (and-l few held (and-l (few && held) once (q .4)));
+        list = is (low && once) (both low once (held-low all) (and-r (few && held) once (q .4)));
+        threads = is (entries && runs) (both entries runs (entries-of (q .3) all) (k .runnable));
+        groups = is (groupsOk s) (q .2);
+      }
+
+  sound-of : T (shapeOk s) → Parts → T (sound s)
+  unfolding sound listOk
+  sound-of h k =
+      let few : Bool = leb (s .count) 64 in
+      let once : Bool = distinct (listed s) in
+      let list : Bool = few && held && once in
+      let most : Bool = leb (s .meter) 10000001000000 in
+      let number : Bool = leb (s .running) 64 in
+      let early : Bool = idle || ltb (s .meter) 10000000000000 in
+      let meter = holds (most && number && early) (k .meter) in
+      let limits = and-l (most && number) early meter in
+      let pass = holds (entries && runs) (k .threads) in
+      let each = and-l entries runs pass in
+      let entry = holds (low && once) (k .list) in
+      both (shapeOk s && settingsOk (s .settings) && groupsOk s && threads && list && runningOk s) most
+      (into (shapeOk s) (settingsOk (s .settings)) (groupsOk s) threads list (runningOk s) (
+        h,
+        holds (settingsOk (s .settings)) (k .settings),
+        holds (groupsOk s) (k .groups),
+        threads-of each,
+        both (few && held) once (both few held (le→leb (s .count) 64 (k .few)) (held-of each (and-l low once entry))) (and-r low once entry),
+        running-of (record { number = and-r most number limits; early = and-r (most && number) early meter; runnable = and-r entries runs pass }),
+      ))
+      (and-l most number limits)
+
+  pub unsound : (Parts → ⊥) → false ≡ sound s
+  unsound f = same false (sound s) (λ z. absurd z) (λ z. absurd (f (parts-of z)))
+
+  pub whole : T (shapeOk s) → (b : Bool) → b ≡ groupsOk s → (groupsOk s ≡ true → Parts) → b ≡ sound s
+  whole h b e f =
+      same b (sound s) (λ z. sound-of h (f (is (groupsOk s) (subst T e z)))) (λ z. subst T (sym e) (holds (groupsOk s) (parts-of z .groups)))
+
+-- What the settings' and the meter's tests say of m and the running thread.
+
+pub settings-most : (k : Settings) → settingsOk k ≡ true → k .thousandth ≤ 1000
+unfolding settingsOk within
+settings-most k e =
+    let m : Bool = within 1 1000 (k .thousandth) in
+    leb→le (k .thousandth) 1000 (and-r (leb 1 (k .thousandth)) (leb (k .thousandth) 1000) (and-l m (within 1 1000000 (k .interval)) (holds (settingsOk k) e)))
+
+pub running-most : (s : Scheduler)
+    → (leb (s .meter) 10000001000000 && leb (s .running) 64 && (eqb (s .running) 64 || ltb (s .meter) 10000000000000)) ≡ true → s .running ≤ 64
+running-most s e =
+    let most : Bool = leb (s .meter) 10000001000000 in
+    let number : Bool = leb (s .running) 64 in
+    let early : Bool = eqb (s .running) 64 || ltb (s .meter) 10000000000000 in
+    leb→le (s .running) 64 (and-r most number (and-l (most && number) early (holds (most && number && early) e)))
+
+-- The tables are as long as their types say, from what owning the state tells.
+pub shaped : (s : Scheduler) (vs : List Val) → Is (row scheduler.the-type) s vs → T (shapeOk s)
+unfolding shapeOk
+shaped s vs g =
+    let threads : length (s .threads) ≡ 64 = simp length-map at (g .1 .1 .0 .1 .0 .1) in
+    let order : length (s .order) ≡ 64 = simp length-map at (g .1 .1 .1 .0 .1 .0 .1) in
+    let groups : length (s .groups) ≡ 16 = simp length-map at (g .1 .1 .1 .1 .0 .1 .0 .1) in
+    holds (shapeOk s) (rw (eq-eqb (length (s .threads)) 64 threads, eq-eqb (length (s .groups)) 16 groups, eq-eqb (length (s .order)) 64 order))

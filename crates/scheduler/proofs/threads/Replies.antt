@@ -1,0 +1,153 @@
+-- From a number and a state to a reply. A call's code finds the refusal's number and, where that is 0, the new state; `refused` and
+-- `accepted` turn these into the reply of `step`. A thread number is looked up at its rest by 64: below 64 that is the number itself, and
+-- above it the call is refused whatever the entry holds.
+use Prim.Native.Nat.{ℕ, _-_, _%_, _<_}
+use mathlib.Core.Path.{_≡_, refl, sym, ap, _∙_}
+use mathlib.Core.List.{List, [], _∷_, _++_, append-assoc}
+use mathlib.Core.Bool.{Bool, true, false, not, cond, _||_}
+use native.Mathlib.Omega.{arith}
+use lib.ListN.{set, take, drop}
+use lib.Seq.{set-getD}
+use lib.Dec.{T, ltb, eqb}
+use borrow.Author.Tests.{ltb-false, eqb-true, eqb-false}
+use Rattle.base.specs.Checks.{_⇒_, firstOf}
+use Rattle.base.specs.Lists.{without}
+use Rattle.order.specs.Queue.{requeue}
+use Rattle.base.proofs.Bools.{cases}
+use Rattle.base.proofs.Lists.{length-without}
+use Rattle.order.proofs.Queue.{requeue-once}
+use Rattle.scheduler.specs.declared.Thread.{Thread}
+use Rattle.scheduler.specs.declared.Scheduler.{Scheduler}
+use Rattle.scheduler.specs.declared.Answer.{Answer}
+use Rattle.scheduler.specs.declared.Answer.the-variants.{Accepted, Refused}
+use Rattle.scheduler.specs.declared.Answered.{Answered}
+use Rattle.scheduler.specs.State.{noThread, threadAt, admittedAt, blockedAt, isAdmitted, isBlocked, listed, stateOf, withThread, withList}
+use Rattle.scheduler.specs.Sound.{sound}
+use Rattle.scheduler.specs.Refusals.{Call, wake, remove, checks, refusal}
+use Rattle.scheduler.specs.Effects.{rear, offList, wokenThread, effect}
+use Rattle.scheduler.specs.Rule.{isDispatch, accept, refuse, step}
+use Rattle.scheduler.specs.Answers.{numbersOf, replyOf}
+use Rattle.scheduler.proofs.Facts.{Facts, facts, length-listed}
+use Rattle.scheduler.proofs.Passed.{passes, remove-passed, wake-passed}
+use Rattle.scheduler.proofs.Steps.{step-state, refused-state}
+
+abbrev pub answered : Answer → Scheduler → Answered
+answered a s = record { answer = a; state = s }
+
+pub refused : (c : Call) (s : Scheduler) (k : ℕ) → k ≡ refusal c s → (k ≡ 0 → ⊥) → replyOf (answered (Refused k) s) ≡ step c s
+unfolding replyOf numbersOf refuse
+refused c s k e ne = ap (λ (j : ℕ). refuse j s) e ∙ sym (refused-state c s (λ z. ne (e ∙ z)))
+
+pub accepted : (c : Call) (s s′ : Scheduler) → isDispatch c ≡ false → refusal c s ≡ 0 → s′ ≡ effect c s → replyOf (answered Accepted s′) ≡ step c s
+unfolding replyOf numbersOf accept
+accepted c s s′ d e q = ap (λ (z : Scheduler). numbersOf Accepted z) q ∙ sym (step-state c s e ∙ rw d)
+
+-- a call that is no dispatch, with the answer of its number: without a refusal the state is the effect's, and with one it is the same
+pub settled : (c : Call) (s s′ : Scheduler) → isDispatch c ≡ false → (k : ℕ) → k ≡ refusal c s → (a : Answer) → a ≡ cond (eqb k 0) Accepted (Refused k)
+    → (eqb k 0 ≡ true → refusal c s ≡ 0 → s′ ≡ effect c s) → (eqb k 0 ≡ false → s′ ≡ s) → replyOf (answered a s′) ≡ step c s
+settled c s s′ d k e a q f g =
+    cases (eqb k 0)
+    (λ z.
+    let r : refusal c s ≡ 0 = sym e ∙ eqb-true k 0 z in
+    let w : a ≡ Accepted = q ∙ rw z in
+    ap (λ (x : Answer). replyOf (answered x s′)) w ∙ accepted c s s′ d r (f z r))
+    (λ z.
+    let w : a ≡ Refused k = q ∙ rw z in
+    ap (λ (x : Answer). replyOf (answered x s′)) w ∙ ap (λ (x : Scheduler). replyOf (answered (Refused k) x)) (g z) ∙ refused c s k e (eqb-false k 0 z))
+
+-- Thread numbers.
+
+pub rest : (n : ℕ) → n < 64 → n % 64 ≡ n
+rest n h = omega arith
+
+-- the first check of a call on a thread
+pub looked-up : (s : Scheduler) (n : ℕ) (more : Thread → ℕ)
+    → cond (ltb 63 n || not (isAdmitted (threadAt s (n % 64)))) 7 (more (threadAt s (n % 64)))
+    ≡ cond (ltb 63 n || not (isAdmitted (threadAt s n))) 7 (more (threadAt s n))
+looked-up s n more =
+    cases (ltb 63 n)
+    (λ e. rw e)
+    (λ e. ap (λ (j : ℕ). cond (ltb 63 n || not (isAdmitted (threadAt s j))) 7 (more (threadAt s j))) (rest n (omega (arith, ltb-false 63 n e))))
+
+-- what the list gives an admitted thread
+pub record Listed (s : Scheduler) (n : ℕ) : Type 0 where
+  pub small : n < 64
+  pub at : n % 64 ≡ n
+  pub some : 0 < s .count
+  pub moved : requeue n (take (s .count) (s .order)) ++ drop (s .count) (s .order) ≡ rear s n
+
+pub is-listed : (s : Scheduler) → Facts s → (n : ℕ) → T (admittedAt s n) → Listed s n
+unfolding listed rear
+is-listed s k n a =
+    let t = k .thread n a in
+    record {
+      small = t .small;
+      at = rest n (t .small);
+      some = omega (arith, length-without n (listed s) (k .once) (t .in-list), length-listed s k);
+      moved =
+          ap (λ (l : List ℕ). l ++ drop (s .count) (s .order)) (requeue-once n (listed s) (k .once) (t .in-list))
+          ∙ append-assoc (without n (listed s)) (n ∷ []) (drop (s .count) (s .order));
+    }
+
+-- Remove and wake.
+
+module _ (s : Scheduler) (n : ℕ) where
+  pub wake-number : (ok : Bool) → ok ≡ sound s
+      → firstOf ((not ok ⇒ 16) ∷ (ltb 63 n || not (isAdmitted (threadAt s (n % 64))) ⇒ 7) ∷ (not (isBlocked (threadAt s (n % 64))) ⇒ 10) ∷ []) ≡ refusal (wake n) s
+  unfolding refusal checks firstOf admittedAt blockedAt
+  wake-number ok e =
+      ap (λ (b : Bool). cond (not b) 16 (cond (ltb 63 n || not (isAdmitted (threadAt s (n % 64)))) 7 (cond (not (isBlocked (threadAt s (n % 64)))) 10 0))) e
+      ∙ ap (λ (k : ℕ). cond (not (sound s)) 16 k) (looked-up s n (λ t. cond (not (isBlocked t)) 10 0))
+
+  pub remove-number : (ok : Bool) → ok ≡ sound s
+      → firstOf ((not ok ⇒ 16) ∷ (ltb 63 n || not (isAdmitted (threadAt s (n % 64))) ⇒ 7) ∷ (eqb (s .running) n ⇒ 9) ∷ []) ≡ refusal (remove n) s
+  unfolding refusal checks firstOf admittedAt
+  remove-number ok e =
+      ap (λ (b : Bool). cond (not b) 16 (cond (ltb 63 n || not (isAdmitted (threadAt s (n % 64)))) 7 (cond (eqb (s .running) n) 9 0))) e
+      ∙ ap (λ (k : ℕ). cond (not (sound s)) 16 k) (looked-up s n (λ t. cond (eqb (s .running) n) 9 0))
+
+  module _ (e : refusal (remove n) s ≡ 0) where
+    pub remove-listed : Listed s n
+    remove-listed =
+        let ok = passes (remove n) s e in
+        is-listed s (facts s (ok .0)) n ((remove-passed s n (ok .1)) .0)
+
+  -- the state of a removal that is accepted or not
+  abbrev removal : Bool → Scheduler
+  removal b =
+      stateOf (set (s .threads) (n % 64) (cond b noThread (threadAt s (n % 64)))) (cond b (requeue (n % 64) (take (s .count) (s .order)) ++ drop (s .count) (s .order)) (s .order))
+      (s .groups) (s .meter) (s .settings) (cond b (s .count - 1) (s .count)) (s .running)
+
+  pub remove-done : (k : ℕ) → k ≡ refusal (remove n) s → (a : Answer) → a ≡ cond (eqb k 0) Accepted (Refused k)
+      → (t : Thread) → t ≡ cond (eqb k 0) noThread (threadAt s (n % 64))
+      → (list : List ℕ) → list ≡ cond (eqb k 0) (requeue (n % 64) (take (s .count) (s .order)) ++ drop (s .count) (s .order)) (s .order)
+      → (count : ℕ) → count ≡ cond (eqb k 0) (s .count - 1) (s .count)
+      → replyOf (answered a (stateOf (set (s .threads) (n % 64) t) list (s .groups) (s .meter) (s .settings) count (s .running))) ≡ step (remove n) s
+  unfolding effect isDispatch offList withList withThread rear listed
+  remove-done k e a q t qt list ql count qc =
+      let s′ = stateOf (set (s .threads) (n % 64) t) list (s .groups) (s .meter) (s .settings) count (s .running) in
+      let is : s′ ≡ removal (eqb k 0) = rw (qt, ql, qc) in
+      settled (remove n) s s′ refl k e a q
+      (λ z r.
+      let w = remove-listed r in
+      is
+      ∙ ap removal z
+      ∙ ap (λ (j : ℕ). stateOf (set (s .threads) j noThread) (requeue j (take (s .count) (s .order)) ++ drop (s .count) (s .order)) (s .groups) (s .meter) (s .settings) (s .count - 1) (s .running)) (w .at)
+      ∙ ap (λ (o : List ℕ). stateOf (set (s .threads) n noThread) o (s .groups) (s .meter) (s .settings) (s .count - 1) (s .running)) (w .moved))
+      (λ z. is ∙ ap removal z ∙ ap (λ (l : List Thread). stateOf l (s .order) (s .groups) (s .meter) (s .settings) (s .count) (s .running)) (set-getD (s .threads) (n % 64) noThread))
+
+  pub wake-done : (k : ℕ) → k ≡ refusal (wake n) s → (a : Answer) → a ≡ cond (eqb k 0) Accepted (Refused k)
+      → (t : Thread) → t ≡ cond (eqb k 0) (wokenThread s (threadAt s (n % 64))) (threadAt s (n % 64))
+      → replyOf (answered a (withThread s (n % 64) t)) ≡ step (wake n) s
+  unfolding effect isDispatch withThread
+  wake-done k e a q t qt =
+      settled (wake n) s (withThread s (n % 64) t) refl k e a q
+      (λ z r.
+      let ok = passes (wake n) s r in
+      let w : t ≡ wokenThread s (threadAt s (n % 64)) = qt ∙ rw z in
+      ap (withThread s (n % 64)) w
+      ∙ ap (λ (j : ℕ). withThread s j (wokenThread s (threadAt s j))) (rest n (((facts s (ok .0)) .thread n (wake-passed s n (ok .1))) .small)))
+      (λ z.
+      let w : t ≡ threadAt s (n % 64) = qt ∙ rw z in
+      ap (withThread s (n % 64)) w
+      ∙ ap (λ (l : List Thread). stateOf l (s .order) (s .groups) (s .meter) (s .settings) (s .count) (s .running)) (set-getD (s .threads) (n % 64) noThread))

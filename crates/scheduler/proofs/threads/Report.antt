@@ -1,0 +1,127 @@
+-- Report: the refusal's number, which the entry at the running thread's rest by 64 decides; what soundness gives an accepted report; and
+-- the whole new state, which is `reported`.
+use Prim.Native.Nat.{ℕ, _+_, _-_, _%_, min, _≤_}
+use mathlib.Core.Path.{_≡_, refl, sym, ap, subst, _∙_}
+use mathlib.Core.List.{List, [], _∷_, _++_}
+use mathlib.Core.Bool.{Bool, true, false, not, cond, _&&_, _||_}
+use native.Mathlib.Omega.{arith}
+use lib.ListN.{take, drop, set}
+use lib.Seq.{set-getD}
+use lib.Dec.{ltb, eqb}
+use borrow.Author.Tests.{eqb-false}
+use Rattle.base.specs.Checks.{_⇒_, firstOf}
+use Rattle.order.specs.Queue.{requeue}
+use Rattle.base.proofs.Bools.{cases, holds}
+use Rattle.scheduler.specs.declared.Thread.{Thread}
+use Rattle.scheduler.specs.declared.Scheduler.{Scheduler}
+use Rattle.scheduler.specs.declared.Answer.{Answer}
+use Rattle.scheduler.specs.declared.Answer.the-variants.{Accepted, Refused}
+use Rattle.scheduler.specs.State.{noThread, threadAt, sliceAt, allotmentAt, listed, stateOf, withThread, withList, withRun}
+use Rattle.scheduler.specs.Sound.{sound}
+use Rattle.scheduler.specs.Refusals.{report, checks, refusal}
+use Rattle.scheduler.specs.Effects.{rear, toRear, offList, renewed, chargedThread, charged, exited, reported, effect}
+use Rattle.scheduler.specs.Rule.{isDispatch, step}
+use Rattle.scheduler.specs.Answers.{replyOf}
+use Rattle.scheduler.proofs.Facts.{facts, settings-facts}
+use Rattle.scheduler.proofs.Passed.{passes, report-passed}
+use Rattle.scheduler.proofs.threads.Replies.{answered, settled, rest, Listed, is-listed}
+
+-- The number.
+
+module _ (s : Scheduler) (reason used : ℕ) where
+  -- the checks, with the slice of the thread at j
+  abbrev numberAt : Bool → ℕ → ℕ
+  numberAt ok j = firstOf ((not ok ⇒ 16) ∷ (eqb (s .running) 64 ⇒ 11) ∷ (ltb 3 reason ⇒ 14) ∷ (ltb (min ((threadAt s j) .allotment) (s .settings .interval)) used ⇒ 13) ∷ [])
+
+  at-rest : numberAt (sound s) (s .running % 64) ≡ numberAt (sound s) (s .running)
+  unfolding firstOf
+  at-rest =
+      cases (sound s)
+      (λ w. cases (eqb (s .running) 64)
+      (λ z. rw z)
+      (λ z. ap (numberAt (sound s)) (rest (s .running) (((facts s (holds (sound s) w)) .run (eqb-false (s .running) 64 z)) .small))))
+      (λ w. rw w)
+
+  pub report-number : (ok : Bool) → ok ≡ sound s → (slice : ℕ) → slice ≡ min ((threadAt s (s .running % 64)) .allotment) (s .settings .interval)
+      → firstOf ((not ok ⇒ 16) ∷ (eqb (s .running) 64 ⇒ 11) ∷ (ltb 3 reason ⇒ 14) ∷ (ltb slice used ⇒ 13) ∷ []) ≡ refusal (report reason used) s
+  unfolding refusal checks sliceAt allotmentAt
+  report-number ok e slice q =
+      ap (λ (v : ℕ). firstOf ((not ok ⇒ 16) ∷ (eqb (s .running) 64 ⇒ 11) ∷ (ltb 3 reason ⇒ 14) ∷ (ltb v used ⇒ 13) ∷ [])) q
+      ∙ ap (λ (b : Bool). numberAt b (s .running % 64)) e
+      ∙ at-rest
+
+  -- What soundness gives an accepted report.
+
+  pub record Ready : Type 0 where
+    pub list : Listed s (s .running)
+    pub thousandth : s .settings .thousandth ≤ 1000
+    pub short : used ≤ 1000000
+    pub meter : s .meter ≤ 10000001000000
+    pub ticks : (threadAt s (s .running % 64)) .ticks ≤ 10000001000000
+    pub since : (threadAt s (s .running % 64)) .since ≤ 10000001000000
+
+  module _ (e : refusal (report reason used) s ≡ 0) where
+    pub ready : Ready
+    unfolding sliceAt
+    ready =
+        let ok = passes (report reason used) s e in
+        let k = facts s (ok .0) in
+        let p = report-passed s reason used (ok .1) in
+        let r = k .run (p .0) in
+        let t = k .thread (s .running) (r .admitted) in
+        let z = settings-facts (s .settings) (k .settings) in
+        let l = is-listed s k (s .running) (r .admitted) in
+        record {
+          list = l;
+          thousandth = z .1;
+          short = omega (arith, p .1, z .3);
+          meter = k .meter;
+          ticks = subst (λ (j : ℕ). (threadAt s j) .ticks ≤ 10000001000000) (sym (l .at)) (omega (arith, t .fit .charged, k .meter));
+          since = subst (λ (j : ℕ). (threadAt s j) .since ≤ 10000001000000) (sym (l .at)) (omega (arith, t .fit .since, k .meter));
+        }
+
+  -- The new state.
+
+  -- the state of a report that is accepted or not
+  abbrev after : Bool → Scheduler
+  after b =
+      stateOf (set (s .threads) (s .running % 64) (cond b (cond (eqb reason 3) noThread (chargedThread s reason used (threadAt s (s .running % 64)))) (threadAt s (s .running % 64))))
+      (cond (b && (eqb reason 3 || renewed reason used (threadAt s (s .running % 64)))) (requeue (s .running % 64) (take (s .count) (s .order)) ++ drop (s .count) (s .order)) (s .order))
+      (s .groups) (cond b (s .meter + used) (s .meter)) (s .settings) (cond (b && eqb reason 3) (s .count - 1) (s .count)) (cond b 64 (s .running))
+
+  ended : (exit full : Bool)
+      → stateOf (set (s .threads) (s .running) (cond exit noThread (chargedThread s reason used (threadAt s (s .running))))) (cond (exit || full) (rear s (s .running)) (s .order))
+      (s .groups) (s .meter + used) (s .settings) (cond exit (s .count - 1) (s .count)) 64
+      ≡ cond exit (exited (s .running) used s)
+      (cond full (toRear (s .running) (charged (s .running) reason used s)) (charged (s .running) reason used s))
+  unfolding exited toRear offList charged withList withRun withThread rear listed
+  ended true full = refl
+  ended false true = refl
+  ended false false = refl
+
+  pub report-done : (k : ℕ) → k ≡ refusal (report reason used) s → (a : Answer) → a ≡ cond (eqb k 0) Accepted (Refused k)
+      → (t : Thread) → t ≡ cond (eqb k 0) (cond (eqb reason 3) noThread (chargedThread s reason used (threadAt s (s .running % 64)))) (threadAt s (s .running % 64))
+      → (moves : Bool) → moves ≡ (eqb reason 3 || renewed reason used (threadAt s (s .running % 64)))
+      → (list : List ℕ) → list ≡ cond (eqb k 0 && moves) (requeue (s .running % 64) (take (s .count) (s .order)) ++ drop (s .count) (s .order)) (s .order)
+      → (meter : ℕ) → meter ≡ cond (eqb k 0) (s .meter + used) (s .meter)
+      → (count : ℕ) → count ≡ cond (eqb k 0 && eqb reason 3) (s .count - 1) (s .count)
+      → (running : ℕ) → running ≡ cond (eqb k 0) 64 (s .running)
+      → replyOf (answered a (stateOf (set (s .threads) (s .running % 64) t) list (s .groups) meter (s .settings) count running)) ≡ step (report reason used) s
+  unfolding effect isDispatch reported
+  report-done k e a q t qt moves qv list ql meter qm count qc running qr =
+      let s′ = stateOf (set (s .threads) (s .running % 64) t) list (s .groups) meter (s .settings) count running in
+      let same : list ≡ cond (eqb k 0 && (eqb reason 3 || renewed reason used (threadAt s (s .running % 64)))) (requeue (s .running % 64) (take (s .count) (s .order)) ++ drop (s .count) (s .order)) (s .order)
+      = ql ∙ rw qv in
+      let is : s′ ≡ after (eqb k 0) = rw (qt, same, qm, qc, qr) in
+      settled (report reason used) s s′ refl k e a q
+      (λ z r.
+      let w = ready r .list in
+      is
+      ∙ ap after z
+      ∙ ap (λ (j : ℕ). stateOf (set (s .threads) j (cond (eqb reason 3) noThread (chargedThread s reason used (threadAt s j))))
+      (cond (eqb reason 3 || renewed reason used (threadAt s j)) (requeue j (take (s .count) (s .order)) ++ drop (s .count) (s .order)) (s .order)) (s .groups) (s .meter + used)
+      (s .settings) (cond (eqb reason 3) (s .count - 1) (s .count)) 64) (w .at)
+      ∙ ap (λ (o : List ℕ). stateOf (set (s .threads) (s .running) (cond (eqb reason 3) noThread (chargedThread s reason used (threadAt s (s .running)))))
+      (cond (eqb reason 3 || renewed reason used (threadAt s (s .running))) o (s .order)) (s .groups) (s .meter + used) (s .settings) (cond (eqb reason 3) (s .count - 1) (s .count)) 64) (w .moved)
+      ∙ ended (eqb reason 3) (renewed reason used (threadAt s (s .running))))
+      (λ z. is ∙ ap after z ∙ ap (λ (l : List Thread). stateOf l (s .order) (s .groups) (s .meter) (s .settings) (s .count) (s .running)) (set-getD (s .threads) (s .running % 64) noThread))

@@ -1,0 +1,43 @@
+-- `wake_code` meets its contract: each return is a check of the chain, in its order.
+use borrow.Author.Needs.{needs}
+use borrow.Author.Tests.{lt-ltb, le-ltb, ne-eqb, not-true, not-false}
+use native.Mathlib.Omega.{arith}
+use Rattle.base.specs.Checks.{firstOf}
+use Rattle.scheduler.proofs.threads.wake_code.Statement.{statement}
+use Rattle.scheduler.proofs.threads.wake_code.Tie as tie
+
+returns : tie.Need-returns
+unfolding firstOf
+returns c = simp (not-true (c .before .args .ok) (c .if1 .taken))
+
+cast-if2 : tie.Need-cast-if2
+cast-if2 c = search needs
+
+returns-2 : tie.Need-returns-2
+unfolding firstOf
+returns-2 c = simp (not-false (c .before .before .args .ok) (c .before .if1 .left), lt-ltb 63 (c .before .before .args .number) (omega arith))
+
+returns-3 : tie.Need-returns-3
+unfolding firstOf
+returns-3 c =
+    simp (not-false (c .before .before .before .args .ok) (c .before .before .if1 .left), le-ltb 63 (c .before .before .before .args .number) (omega arith), c .if3 .taken)
+
+returns-4 : tie.Need-returns-4
+unfolding firstOf
+returns-4 c =
+    let a = c .before .before .before .before .args in
+    simp (
+      not-false (a .ok) (c .before .before .before .if1 .left),
+      le-ltb 63 (a .number) (omega arith),
+      lt-ltb 0 (a .status) (omega (arith, c .before .if3 .left)),
+      ne-eqb (a .status) 2 (λ e. omega (arith, c .if4 .taken)),
+    )
+
+returns-5 : tie.Need-returns-5
+unfolding firstOf
+returns-5 c =
+    let a = c .before .before .before .before .args in
+    simp (not-false (a .ok) (c .before .before .before .if1 .left), le-ltb 63 (a .number) (omega arith), c .if4 .left)
+
+pub wake-code-spec : {M : Type 1} → statement M
+wake-code-spec = tie.close (tie.spec returns cast-if2 returns-2 returns-3 returns-4 returns-5)

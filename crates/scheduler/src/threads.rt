@@ -1,0 +1,526 @@
+// Start, and the calls on threads: remove, wake, dispatch and report. Each decides its answer first and then writes the state, with the
+// old values if it is refused: so the compiler keeps one state and copies it out once. A thread number above 63 is refused
+// whatever the entry that stands for it holds.
+ghost use mathlib.Core.Path.{_≡_};
+ghost use mathlib.Core.Bool.{true, not, cond, _||_};
+ghost use mathlib.Core.List.{[], _∷_, _++_};
+ghost use Prim.Native.Nat.{_+_, _-_, _*_, min, _≤_, _<_};
+ghost use lib.Dec.{ltb, leb, eqb};
+ghost use lib.ListN.{take, drop};
+ghost use Rattle.base.specs.Checks.{_⇒_, firstOf};
+ghost use Rattle.order.specs.Queue.{requeue};
+ghost use Rattle.scheduler.specs.State.{noThread};
+ghost use Rattle.scheduler.specs.Sound.{sound};
+ghost use Rattle.scheduler.specs.Refusals.{remove, wake, dispatch, report, startRefusal};
+ghost use Rattle.scheduler.specs.Effects.{renewed, chargedThread, wokenThread, unstarted};
+ghost use Rattle.scheduler.specs.Rule.{step, startReply};
+ghost use Rattle.scheduler.specs.Answers.{replyOf};
+use crate::Answer;
+use crate::Answered;
+use crate::Group;
+use crate::Scheduler;
+use crate::Settings;
+use crate::Thread;
+
+// The reasons of a report.
+pub const TICK: u64 = 0;
+
+pub const BLOCK: u64 = 1;
+
+pub const YIELD: u64 = 2;
+
+pub const EXIT: u64 = 3;
+
+// The meter, or a thread's own count, after a report of the ticks used.
+fn charge(total: u64, used: u64) -> u64
+    requires { ⌜ (total ≤ 10000001000000) × (used ≤ 1000000) ⌝ }
+    ensures { λ r. ⌜ r ≡ total + used ⌝ }
+{
+    total + used
+}
+
+// The answer of a call with a refusal's number, 0 for none.
+pub(crate) fn answered(code: u32) -> Answer
+    ensures { λ r. ⌜ r ≡ cond (eqb code 0) Answer.Accepted (Answer.Refused code) ⌝ }
+{
+    if code == 0 {
+        return Answer::Accepted;
+    }
+    Answer::Refused(code)
+}
+
+// The answer of a dispatch with a refusal's number, and whether it found a thread.
+fn dispatched(code: u32, found: bool, number: u32, slice: u32, before: u32) -> Answer
+    ensures { λ r. ⌜ r ≡ cond (eqb code 0) (cond found (Answer.Run number slice before) (Answer.Idle before)) (Answer.Refused code) ⌝ }
+{
+    if code != 0 {
+        return Answer::Refused(code);
+    }
+    if found {
+        return Answer::Run {
+            thread: number,
+            slice: slice,
+            before: before,
+        };
+    }
+    Answer::Idle(before)
+}
+
+impl Thread {
+    pub const RUNNABLE: u8 = 1;
+
+    pub const BLOCKED: u8 = 2;
+
+    fn none() -> Self
+        ensures { λ r. ⌜ r ≡ noThread ⌝ }
+    {
+        Self {
+            admission: 0,
+            anchor: 0,
+            ticks: 0,
+            since: 0,
+            allotment: 0,
+            reservation: 0,
+            group: 0,
+            status: 0,
+        }
+    }
+
+    // What it may run for at once.
+    fn slice(self, interval: u32) -> u32
+        ensures { λ r. ⌜ r ≡ min (self .allotment) interval ⌝ }
+    {
+        if self.allotment < interval {
+            self.allotment
+        } else {
+            interval
+        }
+    }
+
+    // The thread after a wake.
+    fn woken(mut self, accepted: bool, meter: u64) -> Self
+        ensures { λ r. ⌜ ((s : Scheduler) → s .meter ≡ meter → r ≡ cond accepted (wokenThread s self) self) ⌝ }
+    {
+        if accepted {
+            self.anchor = meter;
+            self.since = 0;
+            self.status = Self::RUNNABLE;
+            return self;
+        }
+        self
+    }
+
+    // The thread after a removal.
+    fn freed(self, accepted: bool) -> Self
+        ensures { λ r. ⌜ r ≡ cond accepted noThread self ⌝ }
+    {
+        if accepted {
+            return Self::none();
+        }
+        self
+    }
+
+    // Whether a report fills the allotment.
+    fn renewed(self, reason: u64, used: u64) -> bool
+        ensures { λ r. ⌜ r ≡ renewed reason used self ⌝ }
+    {
+        if reason == YIELD {
+            return true;
+        }
+        self.allotment as u64 <= used
+    }
+
+    // Whether a report moves the thread to the rear. One that ends it takes it off the list from there.
+    fn moves(self, reason: u64, used: u64) -> bool
+        ensures { λ r. ⌜ r ≡ (eqb reason 3 || renewed reason used self) ⌝ }
+    {
+        if reason == EXIT {
+            return true;
+        }
+        self.renewed(reason, used)
+    }
+
+    // The allotment after a report.
+    fn remaining(self, thousandth: u32, reason: u64, used: u64) -> u32
+        requires { ⌜ thousandth ≤ 1000 ⌝ }
+        ensures { λ r. ⌜ r ≡ cond (renewed reason used self) (self .reservation * thousandth) (self .allotment - used) ⌝ }
+    {
+        if self.renewed(reason, used) {
+            return self.reservation as u32 * thousandth;
+        }
+        self.allotment - used as u32
+    }
+
+    // The thread after a report that is accepted and leaves the meter at `meter`.
+    fn charged(mut self, meter: u64, thousandth: u32, reason: u64, used: u64) -> Self
+        requires { ⌜ (thousandth ≤ 1000)
+            × (used ≤ 1000000)
+            × (self .ticks ≤ 10000001000000)
+            × (self .since ≤ 10000001000000) ⌝ }
+        ensures { λ r. ⌜ ((s : Scheduler) → s .meter + used ≡ meter → s .settings .thousandth ≡ thousandth
+            → r ≡ cond (eqb reason 3) noThread (chargedThread s reason used self)) ⌝ }
+    {
+        if reason == EXIT {
+            return Self::none();
+        }
+        let allotment = self.remaining(thousandth, reason, used);
+        let ticks = charge(self.ticks, used);
+        let since = charge(self.since, used);
+        self.allotment = allotment;
+        self.ticks = ticks;
+        self.since = since;
+        self.status = Self::RUNNABLE;
+        if reason == YIELD {
+            self.anchor = meter;
+            self.since = 0;
+            return self;
+        }
+        if reason == BLOCK {
+            self.status = Self::BLOCKED;
+            return self;
+        }
+        self
+    }
+
+    // The thread after a report.
+    fn reported(self, accepted: bool, meter: u64, thousandth: u32, reason: u64, used: u64) -> Self
+        requires { ⌜ (accepted ≡ true → (thousandth ≤ 1000)
+            × (used ≤ 1000000)
+            × (self .ticks ≤ 10000001000000)
+            × (self .since ≤ 10000001000000)) ⌝ }
+        ensures { λ r. ⌜ ((s : Scheduler) → (accepted ≡ true → s .meter + used ≡ meter) → s .settings .thousandth ≡ thousandth
+            → r ≡ cond accepted (cond (eqb reason 3) noThread (chargedThread s reason used self)) self) ⌝ }
+    {
+        if accepted {
+            return self.charged(meter, thousandth, reason, used);
+        }
+        self
+    }
+}
+
+// The meter after a report.
+fn meter_after(accepted: bool, meter: u64, used: u64) -> u64
+    requires { ⌜ (accepted ≡ true → (meter ≤ 10000001000000) × (used ≤ 1000000)) ⌝ }
+    ensures { λ r. ⌜ r ≡ cond accepted (meter + used) meter ⌝ }
+{
+    if accepted {
+        return charge(meter, used);
+    }
+    meter
+}
+
+// The list after a removal or a report.
+fn requeued(list: [u8; 64], count: usize, number: u8, moves: bool) -> [u8; 64]
+    ensures { λ r. ⌜ r ≡ cond moves (requeue number (take count list) ++ drop count list) list ⌝ }
+{
+    if moves {
+        return order::rear(list, count, number);
+    }
+    list
+}
+
+// The list's length after a removal or a report.
+fn count_after(count: u32, ends: bool) -> u32
+    requires { ⌜ (ends ≡ true → 0 < count) ⌝ }
+    ensures { λ r. ⌜ r ≡ cond ends (count - 1) count ⌝ }
+{
+    if ends {
+        return count - 1;
+    }
+    count
+}
+
+// The running thread after a dispatch or a report.
+fn running_after(changes: bool, next: u32, running: u32) -> u32
+    ensures { λ r. ⌜ r ≡ cond changes next running ⌝ }
+{
+    if changes {
+        return next;
+    }
+    running
+}
+
+// How much of the list a dispatch looks at.
+fn searched(code: u32, count: u32) -> u32
+    ensures { λ r. ⌜ r ≡ cond (eqb code 0) count 0 ⌝ }
+{
+    if code == 0 {
+        return count;
+    }
+    0
+}
+
+// The number that a start is refused with, or 0.
+fn start_code(thousandth: u64, interval: u64) -> u32
+    ensures { λ r. ⌜ r ≡ startRefusal thousandth interval ⌝ }
+{
+    if thousandth < 1 {
+        return 1;
+    }
+    if (Settings::THOUSANDTH_MOST as u64) < thousandth {
+        return 1;
+    }
+    if interval < 1 {
+        return 1;
+    }
+    if (Settings::INTERVAL_MOST as u64) < interval {
+        return 1;
+    }
+    0
+}
+
+// The number that removing a thread of a status is refused with, or 0.
+fn remove_code(ok: bool, number: u64, status: u8, running: u32) -> u32
+    ensures { λ r. ⌜ r ≡ firstOf ((not ok ⇒ 16) ∷ (ltb 63 number || not (ltb 0 status) ⇒ 7) ∷ (eqb running number ⇒ 9) ∷ []) ⌝ }
+{
+    if !ok {
+        return 16;
+    }
+    if Scheduler::THREADS as u64 <= number {
+        return 7;
+    }
+    if status == 0 {
+        return 7;
+    }
+    if running as u64 == number {
+        return 9;
+    }
+    0
+}
+
+// The number that waking a thread of a status is refused with, or 0.
+fn wake_code(ok: bool, number: u64, status: u8) -> u32
+    ensures { λ r. ⌜ r ≡ firstOf ((not ok ⇒ 16) ∷ (ltb 63 number || not (ltb 0 status) ⇒ 7) ∷ (not (eqb status 2) ⇒ 10) ∷ []) ⌝ }
+{
+    if !ok {
+        return 16;
+    }
+    if Scheduler::THREADS as u64 <= number {
+        return 7;
+    }
+    if status == 0 {
+        return 7;
+    }
+    if status != Thread::BLOCKED {
+        return 10;
+    }
+    0
+}
+
+// The number that a dispatch is refused with, or 0.
+fn dispatch_code(ok: bool, running: u32, meter: u64) -> u32
+    ensures { λ r. ⌜ r ≡ firstOf ((not ok ⇒ 16) ∷ (not (eqb running 64) ⇒ 12) ∷ (leb 10000000000000 meter ⇒ 15) ∷ []) ⌝ }
+{
+    if !ok {
+        return 16;
+    }
+    if running != Scheduler::THREADS {
+        return 12;
+    }
+    if Scheduler::METER_LIMIT <= meter {
+        return 15;
+    }
+    0
+}
+
+// The number that a report is refused with, or 0.
+fn report_code(ok: bool, running: u32, reason: u64, slice: u32, used: u64) -> u32
+    ensures { λ r. ⌜ r ≡ firstOf ((not ok ⇒ 16) ∷ (eqb running 64 ⇒ 11) ∷ (ltb 3 reason ⇒ 14) ∷ (ltb slice used ⇒ 13) ∷ []) ⌝ }
+{
+    if !ok {
+        return 16;
+    }
+    if running == Scheduler::THREADS {
+        return 11;
+    }
+    if EXIT < reason {
+        return 14;
+    }
+    if (slice as u64) < used {
+        return 13;
+    }
+    0
+}
+
+impl Scheduler {
+    // All zeros, which is no sound state.
+    fn unstarted() -> Self
+        ensures { λ r. ⌜ r ≡ unstarted ⌝ }
+    {
+        let thread = Thread::none();
+        let group = Group {
+            ceiling: 0,
+            parent: 0,
+            opened: 0,
+        };
+        let settings = Settings {
+            thousandth: 0,
+            interval: 0,
+        };
+        Self {
+            threads: [thread; 64],
+            order: [0; 64],
+            groups: [group; 16],
+            meter: 0,
+            settings: settings,
+            count: 0,
+            running: 0,
+        }
+    }
+
+    // A state with these settings and no threads.
+    pub fn start(thousandth: u64, interval: u64) -> Answered
+        ensures { λ r. ⌜ replyOf r ≡ startReply thousandth interval ⌝ }
+    {
+        let code = start_code(thousandth, interval);
+        let mut answer = Answer::Refused(code);
+        let mut state = Self::unstarted();
+        if code == 0 {
+            let root = Group {
+                ceiling: Self::WHOLE as u16,
+                parent: 0,
+                opened: 1,
+            };
+            let settings = Settings {
+                thousandth: thousandth as u32,
+                interval: interval as u32,
+            };
+            state.groups[0] = root;
+            state.settings = settings;
+            state.running = Self::THREADS;
+            answer = Answer::Accepted;
+        }
+        Answered {
+            answer: answer,
+            state: state,
+        }
+    }
+
+    // Takes a thread off the list and frees its number and reservation.
+    pub fn remove(self, number: u64) -> Answered
+        ensures { λ r. ⌜ replyOf r ≡ step (remove number) self ⌝ }
+    {
+        let ok = self.sound();
+        self.remove_given(ok, number)
+    }
+
+    // Makes a blocked thread runnable.
+    pub fn wake(self, number: u64) -> Answered
+        ensures { λ r. ⌜ replyOf r ≡ step (wake number) self ⌝ }
+    {
+        let ok = self.sound();
+        self.wake_given(ok, number)
+    }
+
+    // Takes the first runnable thread of the list. `before` counts the entries passed, which are blocked.
+    pub fn dispatch(self) -> Answered
+        ensures { λ r. ⌜ replyOf r ≡ step dispatch self ⌝ }
+    {
+        let ok = self.sound();
+        self.dispatch_given(ok)
+    }
+
+    // Charges the running thread the ticks used, and ends its run.
+    pub fn report(mut self, reason: u64, used: u64) -> Answered
+        ensures { λ r. ⌜ replyOf r ≡ step (report reason used) self ⌝ }
+    {
+        let ok = self.sound();
+        self.report_given(ok, reason, used)
+    }
+
+    // The calls with the result of the soundness test.
+
+    pub(crate) fn remove_given(mut self, ok: bool, number: u64) -> Answered
+        requires { ⌜ ok ≡ sound self ⌝ }
+        ensures { λ r. ⌜ replyOf r ≡ step (remove number) self ⌝ }
+    {
+        let at = (number % Self::THREADS as u64) as usize;
+        let thread = self.threads[at];
+        let code = remove_code(ok, number, thread.status, self.running);
+        let accepted = code == 0;
+        let count = self.count;
+        let list = self.order;
+        let freed = thread.freed(accepted);
+        let moved = requeued(list, count as usize, at as u8, accepted);
+        self.threads[at] = freed;
+        self.order = moved;
+        self.count = count_after(count, accepted);
+        Answered {
+            answer: answered(code),
+            state: self,
+        }
+    }
+
+    pub(crate) fn wake_given(mut self, ok: bool, number: u64) -> Answered
+        requires { ⌜ ok ≡ sound self ⌝ }
+        ensures { λ r. ⌜ replyOf r ≡ step (wake number) self ⌝ }
+    {
+        let at = (number % Self::THREADS as u64) as usize;
+        let thread = self.threads[at];
+        let code = wake_code(ok, number, thread.status);
+        let woken = thread.woken(code == 0, self.meter);
+        self.threads[at] = woken;
+        Answered {
+            answer: answered(code),
+            state: self,
+        }
+    }
+
+    pub(crate) fn dispatch_given(mut self, ok: bool) -> Answered
+        requires { ⌜ ok ≡ sound self ⌝ }
+        ensures { λ r. ⌜ replyOf r ≡ step dispatch self ⌝ }
+    {
+        let running = self.running;
+        let code = dispatch_code(ok, running, self.meter);
+        let count = searched(code, self.count);
+        let mut stop = count;
+        let mut before: u32 = 0;
+        while before < stop {
+            let number = self.order[before as usize];
+            let thread = self.threads[number as usize];
+            let status = thread.status;
+            if status == Thread::RUNNABLE {
+                stop = before;
+                continue;
+            }
+            before += 1;
+        }
+        let found = before < count;
+        let place = (before % Self::THREADS) as usize;
+        let number = self.order[place] as u32 % Self::THREADS;
+        let thread = self.threads[number as usize];
+        let slice = thread.slice(self.settings.interval);
+        self.running = running_after(found, number, running);
+        Answered {
+            answer: dispatched(code, found, number, slice, before),
+            state: self,
+        }
+    }
+
+    pub(crate) fn report_given(mut self, ok: bool, reason: u64, used: u64) -> Answered
+        requires { ⌜ ok ≡ sound self ⌝ }
+        ensures { λ r. ⌜ replyOf r ≡ step (report reason used) self ⌝ }
+    {
+        let running = self.running;
+        let at = (running % Self::THREADS) as usize;
+        let thread = self.threads[at];
+        let slice = thread.slice(self.settings.interval);
+        let code = report_code(ok, running, reason, slice, used);
+        let charges = code == 0;
+        let count = self.count;
+        let list = self.order;
+        let meter = meter_after(charges, self.meter, used);
+        let reported = thread.reported(charges, meter, self.settings.thousandth, reason, used);
+        let moves = charges & thread.moves(reason, used);
+        let moved = requeued(list, count as usize, at as u8, moves);
+        self.threads[at] = reported;
+        self.order = moved;
+        self.count = count_after(count, charges & (reason == EXIT));
+        self.running = running_after(charges, Self::THREADS, running);
+        self.meter = meter;
+        Answered {
+            answer: answered(code),
+            state: self,
+        }
+    }
+}

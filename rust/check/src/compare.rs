@@ -1,0 +1,242 @@
+//! The library beside the model: the same call on both, asserted equal.
+//!
+//! States are held as the model's. The library's are made from them field by
+//! field, and what it hands back is read field by field, so that every number
+//! of a state is compared.
+
+#![forbid(unsafe_code)]
+
+use model::accounts::Entry;
+use model::blocks::Record;
+use model::random::Call;
+use model::rule::{self, Group, Reply, Scheduler, Settings, Thread};
+use mtr::numbers;
+
+/// The state made of the types of a module, each field from that of its name.
+macro_rules! state {
+    ($side:ident, $s:expr) => {
+        $side::Scheduler {
+            threads: $s.threads.map(|t| $side::Thread {
+                admission: t.admission,
+                anchor: t.anchor,
+                ticks: t.ticks,
+                since: t.since,
+                allotment: t.allotment,
+                reservation: t.reservation,
+                group: t.group,
+                status: t.status,
+            }),
+            order: $s.order,
+            groups: $s.groups.map(|g| $side::Group {
+                ceiling: g.ceiling,
+                parent: g.parent,
+                opened: g.opened,
+            }),
+            meter: $s.meter,
+            settings: $side::Settings {
+                thousandth: $s.settings.thousandth,
+                interval: $s.settings.interval,
+            },
+            count: $s.count,
+            running: $s.running,
+        }
+    };
+}
+
+/// The state as the library takes it.
+pub fn to_library(s: &Scheduler) -> numbers::Scheduler {
+    state!(numbers, s)
+}
+
+/// A state of the library's as the model holds it.
+pub fn to_model(s: &numbers::Scheduler) -> Scheduler {
+    state!(rule, s)
+}
+
+/// A record as the library takes it.
+pub fn to_library_record(record: &Record) -> numbers::Record {
+    numbers::Record {
+        kind: record.kind,
+        subject: record.subject,
+        group: record.group,
+        reason: record.reason,
+        amount: record.amount,
+        ticks: record.ticks,
+    }
+}
+
+/// A record of the library's as the model holds it.
+pub fn to_model_record(record: &numbers::Record) -> Record {
+    Record {
+        kind: record.kind,
+        subject: record.subject,
+        group: record.group,
+        reason: record.reason,
+        amount: record.amount,
+        ticks: record.ticks,
+    }
+}
+
+/// An entry of the library's roster as the model holds it.
+pub fn to_model_entry(entry: &numbers::Entry) -> Entry {
+    Entry {
+        number: entry.number,
+        state: entry.state,
+        allotment: entry.allotment,
+        share: entry.share,
+        lag: entry.lag,
+    }
+}
+
+/// The state whose fields are all 0, which a refused start has.
+pub const ZEROS: Scheduler = Scheduler {
+    threads: [Thread::UNUSED; 64],
+    order: [0; 64],
+    groups: [Group::CLOSED; 16],
+    meter: 0,
+    settings: Settings {
+        thousandth: 0,
+        interval: 0,
+    },
+    count: 0,
+    running: 0,
+};
+
+/// Reply and state of a call of the library's.
+pub fn library(s: &Scheduler, call: Call) -> (Reply, Scheduler) {
+    let state = to_library(s);
+    let reply = match call {
+        Call::Open {
+            number,
+            parent,
+            ceiling,
+        } => numbers::open(state, number, parent, ceiling),
+        Call::Close { number } => numbers::close(state, number),
+        Call::Admit {
+            number,
+            group,
+            reservation,
+        } => numbers::admit(state, number, group, reservation),
+        Call::Remove { number } => numbers::remove(state, number),
+        Call::Wake { number } => numbers::wake(state, number),
+        Call::Dispatch => numbers::dispatch(state),
+        Call::Report { reason, used } => numbers::report(state, reason, used),
+    };
+    parts(&reply)
+}
+
+fn parts(reply: &numbers::Reply) -> (Reply, Scheduler) {
+    let numbers = Reply {
+        answer: reply.answer,
+        thread: reply.thread,
+        slice: reply.slice,
+        before: reply.before,
+    };
+    (numbers, to_model(&reply.state))
+}
+
+/// Makes the call on both sides. The replies and the states after it are the
+/// same, and a refusal leaves the state as it was.
+pub fn both(s: &mut Scheduler, call: Call) -> Reply {
+    let before = *s;
+    let (reply, after) = library(&before, call);
+    let wanted = model::random::apply(s, call);
+    assert!(
+        reply == wanted && after == *s,
+        "{call:?}\nthe library's {reply:?}\nthe model's   {wanted:?}\nin {before:?}\nthe library's {after:?}\nthe model's   {s:?}"
+    );
+    if reply.answer != 0 {
+        assert_eq!(reply, Reply::plain(reply.answer));
+        assert!(after == before, "{call:?} changed the state");
+    }
+    reply
+}
+
+/// Starts both sides. A refused start has a state of zeros.
+pub fn start(m: u64, p: u64) -> Result<Scheduler, u32> {
+    let (reply, state) = parts(&numbers::start(m, p));
+    assert_eq!(reply, Reply::plain(reply.answer));
+    let wanted = Scheduler::start(m, p);
+    match wanted {
+        Ok(s) => assert!(reply.answer == 0 && state == s, "start {m} {p}: {reply:?}"),
+        Err(refusal) => assert!(
+            reply.answer == refusal && state == ZEROS,
+            "start {m} {p}: {reply:?}"
+        ),
+    }
+    wanted
+}
+
+/// The soundness test on both sides.
+pub fn sound(s: &Scheduler) -> bool {
+    let wanted = s.sound();
+    assert_eq!(
+        mtr::raw::mtr_by_value_sound(to_library(s)),
+        wanted as u32,
+        "{s:?}"
+    );
+    wanted
+}
+
+/// Kinds of calls in the order of their record numbers.
+pub const KINDS: [&str; 7] = [
+    "open", "close", "admit", "remove", "wake", "dispatch", "report",
+];
+
+/// The call's place in [`KINDS`].
+pub fn kind(call: Call) -> usize {
+    match call {
+        Call::Open { .. } => 0,
+        Call::Close { .. } => 1,
+        Call::Admit { .. } => 2,
+        Call::Remove { .. } => 3,
+        Call::Wake { .. } => 4,
+        Call::Dispatch => 5,
+        Call::Report { .. } => 6,
+    }
+}
+
+/// How often each call gave each answer.
+#[derive(Default)]
+pub struct Tally {
+    counts: [[u64; 17]; 7],
+    /// Accepted dispatches that found no runnable thread.
+    pub idle: u64,
+}
+
+impl Tally {
+    pub fn add(&mut self, call: Call, reply: Reply) {
+        self.counts[kind(call)][reply.answer as usize] += 1;
+        self.idle += (call == Call::Dispatch && reply.answer == 0 && reply.thread == 64) as u64;
+    }
+
+    /// How often a kind of call gave an answer.
+    pub fn count(&self, kind: usize, answer: u32) -> u64 {
+        self.counts[kind][answer as usize]
+    }
+
+    /// The answers that a kind of call gave at least `least` times.
+    pub fn seen(&self, kind: usize, least: u64) -> Vec<u32> {
+        (0..17)
+            .filter(|&a| self.counts[kind][a as usize] >= least)
+            .collect()
+    }
+
+    pub fn total(&self) -> u64 {
+        self.counts.iter().flatten().sum()
+    }
+
+    /// One line per call: answer × count.
+    pub fn print(&self) {
+        for (name, counts) in KINDS.iter().zip(&self.counts) {
+            let seen: Vec<String> = counts
+                .iter()
+                .enumerate()
+                .filter(|(_, &n)| n > 0)
+                .map(|(answer, n)| format!("{answer} × {n}"))
+                .collect();
+            println!("{name}: {}", seen.join(", "));
+        }
+        println!("idle dispatches: {}", self.idle);
+    }
+}

@@ -1,0 +1,260 @@
+//! A journal made of any bytes, and its replay by the library's functions beside the model.
+//!
+//! A fuzzer changes bytes. So that most changes lead to another journal and not to a wrong check, the
+//! bytes are read as a recipe: what stands in the journal, with right checks unless the recipe damages
+//! a block. Any bytes are a recipe.
+
+use crate::compare::{
+    both, sound, start, to_library, to_library_record, to_model_entry, to_model_record,
+};
+use crate::guard::{Guarded, Side};
+use model::accounts::Entry;
+use model::blocks::{check, kind, read_block, write_block, Record, BLOCK, RECORDS};
+use model::random::recorded;
+use model::rule::{Reply, Scheduler};
+use mtr::{numbers, raw};
+use std::fmt::Write;
+
+/// A journal and the lengths in which a pipe delivers it, again and again.
+#[derive(Clone, Debug, PartialEq, Eq)]
+pub struct Case {
+    pub journal: Vec<u8>,
+    pub pieces: [usize; 2],
+}
+
+/// The recipe's bytes from the front, and 0 past its end.
+struct Bytes<'a>(&'a [u8]);
+
+impl Bytes<'_> {
+    fn byte(&mut self) -> u8 {
+        match self.0.split_first() {
+            Some((&first, rest)) => {
+                self.0 = rest;
+                first
+            }
+            None => 0,
+        }
+    }
+
+    fn short(&mut self) -> u16 {
+        u16::from_le_bytes([self.byte(), self.byte()])
+    }
+
+    fn long(&mut self) -> u32 {
+        self.short() as u32 | (self.short() as u32) << 16
+    }
+}
+
+/// The case of a recipe. Its first byte says how the rest is read: 0 as the journal itself, 1 as blocks
+/// whose numbers and checks are then made right, else as a list of records and damages. The next two
+/// bytes are the pieces.
+pub fn case(recipe: &[u8]) -> Case {
+    let mut bytes = Bytes(recipe);
+    let form = bytes.byte() % 4;
+    let pieces = [bytes.byte(), bytes.byte()].map(|b| 1 + 8 * b as usize);
+    let journal = match form {
+        0 => bytes.0.to_vec(),
+        1 => sealed(bytes.0),
+        _ => listed(bytes),
+    };
+    Case { journal, pieces }
+}
+
+fn seal(block: &mut [u8; BLOCK]) {
+    let mut body = [0; 510];
+    body.copy_from_slice(&block[..510]);
+    block[510..].copy_from_slice(&check(&body));
+}
+
+fn sealed(bytes: &[u8]) -> Vec<u8> {
+    let mut journal = bytes.to_vec();
+    let (blocks, _) = journal.as_chunks_mut::<BLOCK>();
+    for (place, block) in blocks.iter_mut().enumerate() {
+        block[..4].copy_from_slice(&(place as u32).to_le_bytes());
+        seal(block);
+    }
+    journal
+}
+
+/// Most blocks of a list, so that a run stays short.
+const BLOCKS: usize = 24;
+
+/// Item by item: the low half of a byte is a record's kind, followed by the fields that it uses; 0 ends the
+/// block; 9 sets a byte of the block under its check and 10 one after it; 11 cuts the end of the journal
+/// off; others are passed over.
+fn listed(mut bytes: Bytes) -> Vec<u8> {
+    let mut journal = Vec::new();
+    let mut records = Vec::new();
+    let (mut under, mut after) = (Vec::new(), Vec::new());
+    let mut cut = 0;
+    while !bytes.0.is_empty() && journal.len() < BLOCKS * BLOCK {
+        let kind = bytes.byte() % 16;
+        let zero = Record {
+            kind,
+            ..Record::default()
+        };
+        match kind {
+            kind::OPEN | kind::ADMIT => records.push(Record {
+                subject: bytes.byte(),
+                group: bytes.byte(),
+                amount: bytes.short(),
+                ..zero
+            }),
+            kind::CLOSE | kind::REMOVE | kind::WAKE => records.push(Record {
+                subject: bytes.byte(),
+                ..zero
+            }),
+            kind::DISPATCH => records.push(zero),
+            kind::REPORT => records.push(Record {
+                reason: bytes.byte(),
+                ticks: bytes.long(),
+                ..zero
+            }),
+            kind::START => records.push(Record {
+                amount: bytes.short(),
+                ticks: bytes.long(),
+                ..zero
+            }),
+            9 => under.push((bytes.short() as usize % BLOCK, bytes.byte())),
+            10 => after.push((bytes.short() as usize % BLOCK, bytes.byte())),
+            11 => cut = bytes.short() as usize % BLOCK,
+            _ => {}
+        }
+        if kind == 0 || records.len() == RECORDS || bytes.0.is_empty() {
+            let mut block = [0; BLOCK];
+            write_block(&mut block, (journal.len() / BLOCK) as u32, &records);
+            for (at, byte) in under.drain(..) {
+                block[at] = byte;
+            }
+            // As it was, if nothing is damaged.
+            seal(&mut block);
+            for (at, byte) in after.drain(..) {
+                block[at] = byte;
+            }
+            journal.extend(block);
+            records.clear();
+        }
+    }
+    journal.truncate(journal.len().saturating_sub(cut));
+    journal
+}
+
+/// Replays a journal by the library's functions and by the model. Each block's reading, each call's answer and state and
+/// the accounts at the end are the same on both sides, and so is all that is printed, which is handed back.
+///
+/// # Panics
+///
+/// Where something differs.
+pub fn replay(journal: &[u8]) -> String {
+    let mut page = Guarded::mapped();
+    let mut printed = String::new();
+    let mut state = Some(Scheduler::default());
+    for (place, area) in journal.chunks(BLOCK).enumerate() {
+        match read(&mut page, area, place as u32) {
+            Err(refusal) => {
+                state = None;
+                let _ = writeln!(printed, "block {place} {refusal}");
+            }
+            Ok(records) => {
+                for (i, record) in records.iter().enumerate() {
+                    let reply = run(&mut state, record);
+                    let (number, answer) = (RECORDS * place + i, reply.answer);
+                    let (thread, slice, before) = (reply.thread, reply.slice, reply.before);
+                    let _ = writeln!(printed, "{number} {answer} {thread} {slice} {before}");
+                }
+            }
+        }
+    }
+    if let Some(state) = &state {
+        roster(&mut page, state);
+        accounts(state);
+    }
+    assert_eq!(printed.as_bytes(), model::replay::replay(journal));
+    printed
+}
+
+/// Reads a block on both sides, from either end of a page that can't be written, and writes what was read.
+fn read(page: &mut Guarded, area: &[u8], place: u32) -> Result<Vec<Record>, u32> {
+    let wanted = read_block(area, place);
+    for side in [Side::Front, Side::Back] {
+        let at = page.lend(side, area, 0xa5);
+        // SAFETY: the page holds the area.
+        let found =
+            page.read_only(|| unsafe { raw::mtr_by_value_read_block(at, area.len(), place) });
+        assert_eq!(found.answer, wanted.as_ref().err().copied().unwrap_or(0));
+        let records = wanted.as_deref().unwrap_or_default();
+        assert_eq!(found.count as usize, records.len());
+        let (some, rest) = found.records.split_at(records.len());
+        assert!(some.iter().map(to_model_record).eq(records.iter().copied()));
+        assert!(rest.iter().all(|r| *r == raw::Record::default()));
+        assert!(page.contents(side, area.len()) == area && page.intact(side, area.len()));
+    }
+    if let Ok(records) = &wanted {
+        let mut list = raw::Records::default();
+        for (to, from) in list.records.iter_mut().zip(records) {
+            *to = to_library_record(from);
+        }
+        for side in [Side::Front, Side::Back] {
+            let at = page.lend(side, &[0x5a; BLOCK], 0xa5);
+            // SAFETY: the page holds the area.
+            let answer =
+                unsafe { raw::mtr_by_value_write_block(at, BLOCK, place, list, records.len()) };
+            assert_eq!(answer, 0);
+            assert!(page.contents(side, BLOCK) == area && page.intact(side, BLOCK));
+        }
+    }
+    wanted
+}
+
+/// Runs a record on both sides; without a state every record but a start answers 20.
+fn run(state: &mut Option<Scheduler>, r: &Record) -> Reply {
+    if r.kind == kind::START {
+        return Reply::plain(match start(r.amount as u64, r.ticks as u64) {
+            Ok(fresh) => {
+                *state = Some(fresh);
+                0
+            }
+            Err(refusal) => refusal,
+        });
+    }
+    let Some(call) = recorded(r) else {
+        panic!("a record of kind {} was read", r.kind);
+    };
+    match state {
+        Some(s) => both(s, call),
+        None => Reply::plain(20),
+    }
+}
+
+/// The roster on both sides, into tables that are just long enough and one too short.
+fn roster(page: &mut Guarded, s: &Scheduler) {
+    const ENTRY: usize = size_of::<raw::Entry>();
+    let threads = s.list().len();
+    for length in [threads, threads.saturating_sub(1)] {
+        let mut wanted = vec![Entry::default(); length];
+        let answer = s.roster(&mut wanted);
+        for side in [Side::Front, Side::Back] {
+            let table = page.lend(side, &vec![0; ENTRY * length], 0xa5);
+            // SAFETY: the page holds the table, which is aligned at both ends, and an entry is numbers.
+            let found = unsafe {
+                let found = raw::mtr_by_value_roster(to_library(s), table.cast(), length);
+                assert_eq!(found, answer);
+                std::slice::from_raw_parts(table.cast::<raw::Entry>(), length).to_vec()
+            };
+            assert!(found.iter().map(to_model_entry).eq(wanted.iter().copied()));
+            assert!(page.intact(side, ENTRY * length));
+        }
+    }
+}
+
+/// Soundness, and the lag and the share of every number.
+fn accounts(s: &Scheduler) {
+    assert!(sound(s));
+    let state = to_library(s);
+    for number in 0..=64 {
+        let (lag, share) = (s.lag(number), s.share(number));
+        assert_eq!(numbers::lag(state, number).result(), lag);
+        let found = numbers::share(state, number).result();
+        assert_eq!(found.map(u64::from), share);
+    }
+}

@@ -1,0 +1,20 @@
+//! The static library and `mtrrun` beside the reference model.
+//!
+//! - [`compare`]: a call on both sides, asserted equal.
+//! - [`program`]: `mtrrun`, run as it was built.
+//! - [`attack`]: arbitrary bytes and arguments to every exported function.
+//! - [`guard`]: memory to lend between two pages that nobody may touch.
+//! - [`faults`]: names the call at which a signal ended the process.
+//! - [`journal`]: a journal made of any bytes, and its replay on every side.
+//! - `fuzzer`: `mtrrun` as a function, in the build for libFuzzer only (`fuzz/build.sh`).
+
+#![deny(unsafe_op_in_unsafe_fn)]
+
+pub mod attack;
+pub mod compare;
+pub mod faults;
+#[cfg(fuzzing)]
+mod fuzzer;
+pub mod guard;
+pub mod journal;
+pub mod program;

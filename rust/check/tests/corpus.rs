@@ -1,0 +1,100 @@
+//! What the fuzzer began with and what it has learnt, run again: the library's functions, `mtrrun` and the model
+//! agree on each case.
+
+use check::journal::{case, replay};
+use check::program::{printed, root};
+use std::path::Path;
+use std::process::Command;
+
+/// A line of the corpus: a recipe's bytes as hexadecimal digits.
+fn unpacked(line: &str) -> Vec<u8> {
+    assert!(line.is_ascii() && line.len().is_multiple_of(2), "{line}");
+    (0..line.len())
+        .step_by(2)
+        .map(|i| u8::from_str_radix(&line[i..i + 2], 16).unwrap())
+        .collect()
+}
+
+/// The seeds and the lines of the corpus, each with its place.
+fn recipes() -> Vec<(String, Vec<u8>)> {
+    let own = Path::new(env!("CARGO_MANIFEST_DIR")).join("fuzz");
+    let mut recipes = Vec::new();
+    for entry in std::fs::read_dir(own.join("seeds")).unwrap() {
+        let path = entry.unwrap().path();
+        recipes.push((path.display().to_string(), std::fs::read(&path).unwrap()));
+    }
+    let corpus = std::fs::read_to_string(own.join("corpus.hex")).unwrap();
+    for (i, line) in corpus.lines().enumerate() {
+        recipes.push((format!("corpus.hex:{}", i + 1), unpacked(line)));
+    }
+    recipes
+}
+
+#[test]
+fn the_corpus() {
+    let recipes = recipes();
+    let mut answers = [0u32; 21];
+    let mut refused = [0u32; 21];
+    for (place, recipe) in &recipes {
+        let case = case(recipe);
+        let wanted = replay(&case.journal);
+        let found = printed(&case.journal, &case.pieces);
+        assert!(found == wanted.as_bytes(), "{place}");
+        for line in wanted.lines() {
+            let words: Vec<&str> = line.split(' ').collect();
+            match words[..] {
+                ["block", _, refusal] => refused[refusal.parse::<usize>().unwrap()] += 1,
+                _ => answers[words[1].parse::<usize>().unwrap()] += 1,
+            }
+        }
+    }
+    println!("{} recipes: {answers:?}, blocks {refused:?}", recipes.len());
+    // 15 needs a meter that no short journal reaches, and 16 to 19 are no answers of a record.
+    let seen = |counts: [u32; 21]| -> Vec<usize> { (0..21).filter(|&a| counts[a] > 0).collect() };
+    assert_eq!(seen(answers), (0..=14).chain([20]).collect::<Vec<_>>());
+    assert_eq!(seen(refused), [17, 18, 19]);
+}
+
+/// Any bytes are a recipe, and the forms give what they are described to give.
+#[test]
+fn recipes_by_hand() {
+    assert_eq!(case(&[]).journal, []);
+    assert_eq!(replay(&case(&[]).journal), "");
+    // The journal itself.
+    let raw = case(&[0, 1, 2, 7, 8, 9]);
+    assert_eq!((raw.journal, raw.pieces), (vec![7, 8, 9], [9, 17]));
+    assert_eq!(replay(&[7, 8, 9]), "block 0 17\n");
+    // Blocks made right: 512 zero bytes are then an empty block.
+    let mut bytes = vec![1, 0, 0];
+    bytes.extend([0; 1024]);
+    assert_eq!(replay(&case(&bytes).journal), "");
+    assert_eq!(replay(&bytes[3..]), "block 0 18\nblock 1 18\n");
+    // A list: admit 5 in group 0 with 500, dispatch, end of the block, report of 20000 with reason 1.
+    let list = [2, 0, 0, 3, 5, 0, 0xf4, 1, 6, 0, 7, 1, 0x20, 0x4e, 0, 0];
+    let journal = case(&list).journal;
+    assert_eq!(journal.len(), 1024);
+    assert_eq!(replay(&journal), "0 0 0 0 0\n1 0 5 20000 0\n31 0 0 0 0\n");
+    // A byte of the first block set under its check, one of the second after it, and the third cut short.
+    let list = [2, 0, 0, 9, 20, 0, 1, 6, 0, 10, 20, 0, 1, 6, 0, 6, 11, 1, 0];
+    assert_eq!(
+        replay(&case(&list).journal),
+        "block 0 19\nblock 1 18\nblock 2 17\n"
+    );
+}
+
+/// The part that only the fuzzer's build has compiles, without a warning.
+#[test]
+fn the_fuzzer_compiles() {
+    let done = Command::new(env!("CARGO"))
+        .args(["check", "--quiet", "--offline", "--lib", "-p", "check"])
+        .current_dir(root())
+        .env("RUSTFLAGS", "--cfg fuzzing -D warnings")
+        .env(
+            "CARGO_TARGET_DIR",
+            Path::new(env!("CARGO_TARGET_TMPDIR")).join("fuzzing"),
+        )
+        .output()
+        .unwrap();
+    let said = String::from_utf8_lossy(&done.stderr);
+    assert!(done.status.success(), "{said}");
+}

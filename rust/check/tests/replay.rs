@@ -1,0 +1,75 @@
+//! The program `mtrrun` against the model's replay: the same bytes on standard output for the same bytes on standard input.
+
+use check::program::{printed, root};
+use model::random::{journal, Rng};
+use model::replay::replay;
+
+fn whole(input: &[u8]) -> Vec<u8> {
+    printed(input, &[1 << 20])
+}
+
+#[test]
+fn listing() {
+    let input = std::fs::read(root().join("crates/mtrrun/stdin")).unwrap();
+    let text = std::fs::read(root().join("crates/mtrrun/stdout")).unwrap();
+    assert_eq!(input.len(), 512);
+    assert_eq!(text.iter().filter(|&&b| b == b'\n').count(), 15);
+    assert_eq!(whole(&input), text);
+    assert_eq!(replay(&input), text);
+}
+
+#[test]
+fn empty_input() {
+    assert_eq!(whole(&[]), b"");
+}
+
+#[test]
+fn shipped_journals() {
+    for name in ["listing", "steady", "exporter"] {
+        let input = std::fs::read(root().join(format!("examples/journals/{name}.blocks"))).unwrap();
+        let out = whole(&input);
+        assert!(!out.is_empty());
+        assert_eq!(out, replay(&input), "{name}");
+    }
+}
+
+#[test]
+fn generated_journals() {
+    let mut rng = Rng::new(6);
+    let mut refused_blocks = 0;
+    let mut answers = [0u32; 21];
+    for round in 0..3000 {
+        let input = journal(&mut rng);
+        let expected = replay(&input);
+        assert_eq!(whole(&input), expected, "journal {round}");
+        for line in expected.split(|&b| b == b'\n') {
+            let text = std::str::from_utf8(line).unwrap();
+            let mut fields = text.split(' ');
+            match (fields.next(), fields.next()) {
+                (Some("block"), _) => refused_blocks += 1,
+                (_, Some(answer)) => answers[answer.parse::<usize>().unwrap()] += 1,
+                _ => {}
+            }
+        }
+    }
+    // 15 needs a meter that no short journal reaches, and 16 and 19 are no answers of a record.
+    for answer in (0..=14).chain([20]) {
+        assert!(answers[answer] > 0, "answer {answer} never occurred");
+    }
+    assert_eq!(answers[15] + answers[16..20].iter().sum::<u32>(), 0);
+    assert!(refused_blocks > 100);
+}
+
+#[test]
+fn odd_pieces() {
+    let mut rng = Rng::new(7);
+    for _ in 0..200 {
+        let mut input = journal(&mut rng);
+        while input.len() < 40_000 {
+            let more = journal(&mut rng);
+            input.extend(more);
+        }
+        let pieces: Vec<usize> = (0..7).map(|_| rng.range(1, 1500) as usize).collect();
+        assert_eq!(printed(&input, &pieces), replay(&input), "{pieces:?}");
+    }
+}

@@ -1,0 +1,46 @@
+//! The move-to-rear list scheduler for Rust hosts.
+//!
+//! [`Scheduler`] is the scheduler as a value with methods, [`blocks`] its event
+//! journal. Errors are [`Refusal`]s, by name and by number. Nothing here
+//! panics, allocates or needs the standard library, and the library behind it
+//! is proved: every call returns, and a refused one changes nothing.
+//!
+//! ```
+//! use mtr::{Dispatch, Reason, Refusal, Scheduler, Settings};
+//!
+//! # fn run(_thread: u8, slice: u32) -> (Reason, u32) { (Reason::Tick, slice) }
+//! let mut scheduler = Scheduler::new(Settings::default())?;
+//! scheduler.open(1, 0, 300)?;
+//! scheduler.admit(0, 0, 500)?;
+//! scheduler.admit(1, 1, 100)?;
+//! for _ in 0..8 {
+//!     match scheduler.dispatch()? {
+//!         Dispatch::Run { thread, slice, .. } => {
+//!             let (reason, used) = run(thread, slice);
+//!             scheduler.report(reason, used)?;
+//!         }
+//!         Dispatch::Idle { .. } => break,
+//!     }
+//! }
+//! assert_eq!(scheduler.meter(), 120_000);
+//! assert_eq!(scheduler.share(0)?, 833);
+//! # Ok::<(), Refusal>(())
+//! ```
+//!
+//! Below the types, [`numbers`] has the same functions on numbers, and [`raw`]
+//! the declarations that are generated from the library's sources.
+
+#![no_std]
+#![deny(unsafe_code)]
+
+pub mod blocks;
+#[allow(unsafe_code)]
+pub mod numbers;
+#[allow(unsafe_code)]
+pub mod raw;
+mod refusal;
+mod scheduler;
+
+pub use blocks::Event;
+pub use refusal::Refusal;
+pub use scheduler::{reservation_of, Dispatch, Entry, Reason, Scheduler, Settings, ThreadState};

@@ -1,0 +1,628 @@
+//! The boundary as it is exported: structs of numbers and functions of the C
+//! calling convention.
+//!
+//! Written from the Rattle sources; do not edit. To renew it:
+//!
+//! ```text
+//! cargo run --release -p boundary
+//! ```
+
+use core::mem::{align_of, offset_of, size_of};
+
+const _: () = assert!(size_of::<usize>() == 8);
+
+const fn size_of_field<T, F>(_: fn(&T) -> &F) -> usize {
+    size_of::<F>()
+}
+
+// Asserts a struct's size and alignment, and each field's offset and size.
+macro_rules! layout {
+    ($name:ident = $size:literal, $align:literal; $($field:ident = $offset:literal, $bytes:literal;)+) => {
+        const _: () = {
+            assert!(size_of::<$name>() == $size);
+            assert!(align_of::<$name>() == $align);
+            $(
+                assert!(offset_of!($name, $field) == $offset);
+                assert!(size_of_field(|s: &$name| &s.$field) == $bytes);
+            )+
+        };
+    };
+}
+
+// Numbers of threads and groups, and the parts of a block.
+
+/// Most threads; their numbers begin at 0.
+pub const THREADS: usize = 64;
+/// Most groups; their numbers begin at 0.
+pub const GROUPS: usize = 16;
+/// Bytes of an event block.
+pub const BLOCK_BYTES: usize = 512;
+/// Most records of an event block.
+pub const RECORDS: usize = 31;
+
+// Limits and defaults.
+
+/// The thread of an idle dispatch, and the running one if none runs.
+pub const NO_THREAD: u32 = 64;
+/// The whole core in thousandths: the greatest ceiling and reservation.
+pub const WHOLE: u32 = 1000;
+/// m by default.
+pub const DEFAULT_THOUSANDTH: u32 = 100;
+/// P by default.
+pub const DEFAULT_INTERVAL: u32 = 20000;
+/// The greatest m.
+pub const MOST_THOUSANDTH: u32 = 1000;
+/// The greatest P.
+pub const MOST_INTERVAL: u32 = 1000000;
+
+// Limits of the meter and of priorities.
+
+/// From this meter on a dispatch is refused.
+pub const METER_LIMIT: u64 = 10000000000000;
+/// The greatest meter of a sound state.
+pub const METER_MOST: u64 = 10000001000000;
+/// The lowest priority.
+pub const LOWEST_PRIORITY: u64 = 1;
+/// The highest priority.
+pub const HIGHEST_PRIORITY: u64 = 10;
+
+// Answers: 0, or why a call is refused.
+
+/// The call is accepted.
+pub const ACCEPTED: u32 = 0;
+/// m or P is outside its range.
+pub const REFUSED_SETTINGS: u32 = 1;
+/// The group or parent is above 15 or not open, or group 0 is to be closed.
+pub const REFUSED_NO_GROUP: u32 = 2;
+/// The group's number is above 15, already open or not above the parent's.
+pub const REFUSED_GROUP_NUMBER: u32 = 3;
+/// The ceiling, reservation or priority is outside its range.
+pub const REFUSED_AMOUNT: u32 = 4;
+/// The ceiling or reservation exceeds what the group has free.
+pub const REFUSED_NO_ROOM: u32 = 5;
+/// The group has a thread or a child.
+pub const REFUSED_GROUP_IN_USE: u32 = 6;
+/// The thread's number is above 63 or not admitted.
+pub const REFUSED_NO_THREAD: u32 = 7;
+/// The thread is already admitted.
+pub const REFUSED_ALREADY_ADMITTED: u32 = 8;
+/// The thread to remove is running.
+pub const REFUSED_THREAD_RUNNING: u32 = 9;
+/// The thread to wake is not blocked.
+pub const REFUSED_NOT_BLOCKED: u32 = 10;
+/// Nothing is running.
+pub const REFUSED_NOTHING_RUNNING: u32 = 11;
+/// A thread is running.
+pub const REFUSED_BUSY: u32 = 12;
+/// More is used than the slice.
+pub const REFUSED_OVER_SLICE: u32 = 13;
+/// The reason is above 3.
+pub const REFUSED_REASON: u32 = 14;
+/// The meter is at its limit.
+pub const REFUSED_METER_FULL: u32 = 15;
+/// The state is not sound.
+pub const REFUSED_UNSOUND: u32 = 16;
+/// The area is not 512 bytes, or the table is too short.
+pub const REFUSED_LENGTH: u32 = 17;
+/// The check of the block is wrong.
+pub const REFUSED_CHECK: u32 = 18;
+/// The block or a record has not the form that is asked for.
+pub const REFUSED_FORM: u32 = 19;
+/// In what mtrrun prints alone: no start is accepted since a refused block.
+pub const REFUSED_NOT_STARTED: u32 = 20;
+
+// Reasons of a report.
+
+/// The thread stays runnable.
+pub const REASON_TICK: u64 = 0;
+/// It blocks until it is woken.
+pub const REASON_BLOCK: u64 = 1;
+/// Its allotment is filled and it moves to the rear.
+pub const REASON_YIELD: u64 = 2;
+/// It leaves the list and frees its number.
+pub const REASON_EXIT: u64 = 3;
+
+// Status of a thread's entry in the state.
+
+/// The number is not admitted.
+pub const STATUS_FREE: u8 = 0;
+/// Runnable or running.
+pub const STATUS_RUNNABLE: u8 = 1;
+/// Blocked.
+pub const STATUS_BLOCKED: u8 = 2;
+
+// State of a thread in the roster.
+
+/// Runnable.
+pub const STATE_RUNNABLE: u32 = 0;
+/// Blocked.
+pub const STATE_BLOCKED: u32 = 1;
+/// Running.
+pub const STATE_RUNNING: u32 = 2;
+
+// Whether a group's entry in the state is open.
+
+/// Closed.
+pub const GROUP_CLOSED: u8 = 0;
+/// Open.
+pub const GROUP_OPEN: u8 = 1;
+
+// Kinds of records, and the fields that each uses; the others are 0.
+
+/// Open a group: subject, group is the parent, amount the ceiling.
+pub const KIND_OPEN: u8 = 1;
+/// Close a group: subject.
+pub const KIND_CLOSE: u8 = 2;
+/// Admit a thread: subject, group, amount is the reservation.
+pub const KIND_ADMIT: u8 = 3;
+/// Remove a thread: subject.
+pub const KIND_REMOVE: u8 = 4;
+/// Wake a thread: subject.
+pub const KIND_WAKE: u8 = 5;
+/// Dispatch.
+pub const KIND_DISPATCH: u8 = 6;
+/// Report: reason, ticks.
+pub const KIND_REPORT: u8 = 7;
+/// Start: amount is m, ticks is P.
+pub const KIND_START: u8 = 8;
+
+/// A thread. status: 0 free, 1 runnable, 2 blocked. admission and anchor are
+/// the meter at admission and at the anchor; ticks and since are the thread's
+/// ticks since each.
+#[repr(C)]
+#[derive(Clone, Copy, Debug, PartialEq, Eq, Default)]
+pub struct Thread {
+    pub admission: u64,
+    pub anchor: u64,
+    pub ticks: u64,
+    pub since: u64,
+    pub allotment: u32,
+    pub reservation: u16,
+    pub group: u8,
+    pub status: u8,
+}
+
+layout! {
+    Thread = 40, 8;
+    admission = 0, 8;
+    anchor = 8, 8;
+    ticks = 16, 8;
+    since = 24, 8;
+    allotment = 32, 4;
+    reservation = 36, 2;
+    group = 38, 1;
+    status = 39, 1;
+}
+
+/// A group. opened: 0 closed, 1 open.
+#[repr(C)]
+#[derive(Clone, Copy, Debug, PartialEq, Eq, Default)]
+pub struct Group {
+    pub ceiling: u16,
+    pub parent: u8,
+    pub opened: u8,
+}
+
+layout! {
+    Group = 4, 2;
+    ceiling = 0, 2;
+    parent = 2, 1;
+    opened = 3, 1;
+}
+
+/// The settings: m, the ticks per thousandth of the virtual time quantum, and
+/// P, the preemption interval in ticks.
+#[repr(C)]
+#[derive(Clone, Copy, Debug, PartialEq, Eq)]
+pub struct Settings {
+    pub thousandth: u32,
+    pub interval: u32,
+}
+
+layout! {
+    Settings = 8, 4;
+    thousandth = 0, 4;
+    interval = 4, 4;
+}
+
+/// The list is the first `count` entries of `order`, front first. running: the
+/// running thread's number, or 64.
+#[repr(C)]
+#[derive(Clone, Copy, Debug, PartialEq, Eq)]
+pub struct Scheduler {
+    pub threads: [Thread; 64],
+    pub order: [u8; 64],
+    pub groups: [Group; 16],
+    pub meter: u64,
+    pub settings: Settings,
+    pub count: u32,
+    pub running: u32,
+}
+
+layout! {
+    Scheduler = 2712, 8;
+    threads = 0, 2560;
+    order = 2560, 64;
+    groups = 2624, 64;
+    meter = 2688, 8;
+    settings = 2696, 8;
+    count = 2704, 4;
+    running = 2708, 4;
+}
+
+/// What a call answers, with the state after it. answer: 0 accepted, or the
+/// refusal. thread (64: idle), slice and before are 0 except for an accepted
+/// dispatch.
+#[repr(C)]
+#[derive(Clone, Copy, Debug, PartialEq, Eq)]
+pub struct Reply {
+    pub answer: u32,
+    pub thread: u32,
+    pub slice: u32,
+    pub before: u32,
+    pub state: Scheduler,
+}
+
+layout! {
+    Reply = 2728, 8;
+    answer = 0, 4;
+    thread = 4, 4;
+    slice = 8, 4;
+    before = 12, 4;
+    state = 16, 2712;
+}
+
+/// The reservation of a priority. answer: 0, or the refusal; the reservation is
+/// then 0.
+#[repr(C)]
+#[derive(Clone, Copy, Debug, PartialEq, Eq, Default)]
+pub struct Mapped {
+    pub answer: u32,
+    pub reservation: u32,
+}
+
+layout! {
+    Mapped = 8, 4;
+    answer = 0, 4;
+    reservation = 4, 4;
+}
+
+/// The reservations of a group's subtree. answer: 0, or the refusal; the sum is
+/// then 0.
+#[repr(C)]
+#[derive(Clone, Copy, Debug, PartialEq, Eq, Default)]
+pub struct Total {
+    pub answer: u32,
+    pub thousandths: u32,
+}
+
+layout! {
+    Total = 8, 4;
+    answer = 0, 4;
+    thousandths = 4, 4;
+}
+
+/// A thread's lag. answer: 0, or the refusal, with a lag of 0.
+#[repr(C)]
+#[derive(Clone, Copy, Debug, PartialEq, Eq, Default)]
+pub struct LagLine {
+    pub answer: u32,
+    pub lag: i64,
+}
+
+layout! {
+    LagLine = 16, 8;
+    answer = 0, 4;
+    lag = 8, 8;
+}
+
+/// A thread's achieved share. answer: 0, or the refusal, with a share of 0.
+#[repr(C)]
+#[derive(Clone, Copy, Debug, PartialEq, Eq, Default)]
+pub struct ShareLine {
+    pub answer: u32,
+    pub share: u32,
+}
+
+layout! {
+    ShareLine = 8, 4;
+    answer = 0, 4;
+    share = 4, 4;
+}
+
+/// A record of the roster. state: 0 runnable, 1 blocked, 2 running.
+#[repr(C)]
+#[derive(Clone, Copy, Debug, PartialEq, Eq, Default)]
+pub struct Entry {
+    pub number: u32,
+    pub state: u32,
+    pub allotment: u32,
+    pub share: u32,
+    pub lag: i64,
+}
+
+layout! {
+    Entry = 24, 8;
+    number = 0, 4;
+    state = 4, 4;
+    allotment = 8, 4;
+    share = 12, 4;
+    lag = 16, 8;
+}
+
+/// A record as numbers. It has a form in a block if its kind is known and the
+/// fields that its kind does not use are zero.
+#[repr(C)]
+#[derive(Clone, Copy, Debug, PartialEq, Eq, Default)]
+pub struct Record {
+    pub kind: u8,
+    pub subject: u8,
+    pub group: u8,
+    pub reason: u8,
+    pub amount: u16,
+    pub ticks: u32,
+}
+
+layout! {
+    Record = 12, 4;
+    kind = 0, 1;
+    subject = 1, 1;
+    group = 2, 1;
+    reason = 3, 1;
+    amount = 4, 2;
+    ticks = 8, 4;
+}
+
+/// The records for a block. How many of them are written is told beside it.
+#[repr(C)]
+#[derive(Clone, Copy, Debug, PartialEq, Eq, Default)]
+pub struct Records {
+    pub records: [Record; 31],
+}
+
+layout! {
+    Records = 372, 4;
+    records = 0, 372;
+}
+
+/// What reading finds. answer: 0, or the refusal. records: the block's, and
+/// blank ones past the last of `count`.
+#[repr(C)]
+#[derive(Clone, Copy, Debug, PartialEq, Eq, Default)]
+pub struct Found {
+    pub answer: u32,
+    pub count: u32,
+    pub records: [Record; 31],
+}
+
+layout! {
+    Found = 380, 4;
+    answer = 0, 4;
+    count = 4, 4;
+    records = 8, 372;
+}
+
+// SAFETY: these are the library's exported functions. Those that take numbers
+// and structs of numbers alone accept every bit pattern and touch no memory of
+// the caller's, so they are safe to call.
+unsafe extern "C" {
+    /// A fresh scheduler: no threads, group 0 open with ceiling 1000, the meter
+    /// 0. `thousandth` is m, the ticks per thousandth of the virtual time
+    /// quantum, and `interval` is P, the preemption interval in ticks.
+    ///
+    /// Refuses, the first that applies:
+    /// - 1 [`REFUSED_SETTINGS`]: m is outside 1 to 1000 or P outside 1 to
+    ///   1000000
+    ///
+    /// The state is then all zeros, on which every call answers 16. It takes no
+    /// state, so that any other is unchanged.
+    pub safe fn mtr_by_value_start(thousandth: u64, interval: u64) -> Reply;
+
+    /// Opens a group below an open parent of a lower number, with a ceiling in
+    /// thousandths.
+    ///
+    /// Refuses, the first that applies:
+    /// - 16 [`REFUSED_UNSOUND`]: the state is not sound
+    /// - 2 [`REFUSED_NO_GROUP`]: the parent is above 15 or not open
+    /// - 3 [`REFUSED_GROUP_NUMBER`]: the number is above 15, already open or
+    ///   not above the parent's
+    /// - 4 [`REFUSED_AMOUNT`]: the ceiling is outside 1 to 1000
+    /// - 5 [`REFUSED_NO_ROOM`]: the ceiling exceeds what the parent has free
+    ///
+    /// The state is then unchanged. Accepted, only the group's entry changes.
+    pub safe fn mtr_by_value_open(
+        state: Scheduler,
+        number: u64,
+        parent: u64,
+        ceiling: u64,
+    ) -> Reply;
+
+    /// Closes a group that has no thread and no child.
+    ///
+    /// Refuses, the first that applies:
+    /// - 16 [`REFUSED_UNSOUND`]: the state is not sound
+    /// - 2 [`REFUSED_NO_GROUP`]: the number is 0, above 15 or not open
+    /// - 6 [`REFUSED_GROUP_IN_USE`]: the group has a thread or a child
+    ///
+    /// The state is then unchanged. Accepted, only the group's entry changes.
+    pub safe fn mtr_by_value_close(state: Scheduler, number: u64) -> Reply;
+
+    /// Admits a thread to a group with a reservation in thousandths: runnable,
+    /// with a full allotment, at the rear of the list.
+    ///
+    /// Refuses, the first that applies:
+    /// - 16 [`REFUSED_UNSOUND`]: the state is not sound
+    /// - 7 [`REFUSED_NO_THREAD`]: the number is above 63
+    /// - 8 [`REFUSED_ALREADY_ADMITTED`]: the thread is already admitted
+    /// - 2 [`REFUSED_NO_GROUP`]: the group is above 15 or not open
+    /// - 4 [`REFUSED_AMOUNT`]: the reservation is outside 1 to 1000
+    /// - 5 [`REFUSED_NO_ROOM`]: the reservation exceeds what the group has free
+    ///
+    /// The state is then unchanged. Accepted, every other thread is unchanged,
+    /// and so are the groups.
+    pub safe fn mtr_by_value_admit(
+        state: Scheduler,
+        number: u64,
+        group: u64,
+        reservation: u64,
+    ) -> Reply;
+
+    /// Removes a thread that does not run: takes it off the list and frees its
+    /// number and reservation.
+    ///
+    /// Refuses, the first that applies:
+    /// - 16 [`REFUSED_UNSOUND`]: the state is not sound
+    /// - 7 [`REFUSED_NO_THREAD`]: the number is above 63 or not admitted
+    /// - 9 [`REFUSED_THREAD_RUNNING`]: the thread is running
+    ///
+    /// The state is then unchanged. Accepted, every other thread and the
+    /// others' mutual order are unchanged, and so are the groups.
+    pub safe fn mtr_by_value_remove(state: Scheduler, number: u64) -> Reply;
+
+    /// Makes a blocked thread runnable.
+    ///
+    /// Refuses, the first that applies:
+    /// - 16 [`REFUSED_UNSOUND`]: the state is not sound
+    /// - 7 [`REFUSED_NO_THREAD`]: the number is above 63 or not admitted
+    /// - 10 [`REFUSED_NOT_BLOCKED`]: the thread is not blocked
+    ///
+    /// The state is then unchanged. Accepted, the list, the thread's allotment
+    /// and every other thread are unchanged.
+    pub safe fn mtr_by_value_wake(state: Scheduler, number: u64) -> Reply;
+
+    /// Takes the first runnable thread of the list to run for its slice, the
+    /// smaller of its allotment and P. Answers the thread, the slice and how
+    /// many threads, all blocked, stood before it; or idle, thread 64 with
+    /// slice 0 and the length of the list, if no thread is runnable.
+    ///
+    /// Refuses, the first that applies:
+    /// - 16 [`REFUSED_UNSOUND`]: the state is not sound
+    /// - 12 [`REFUSED_BUSY`]: a thread is running
+    /// - 15 [`REFUSED_METER_FULL`]: the meter is at least 10000000000000
+    ///
+    /// The state is then unchanged. Accepted, only the number of the running
+    /// thread changes, and nothing if idle.
+    pub safe fn mtr_by_value_dispatch(state: Scheduler) -> Reply;
+
+    /// Charges the running thread the ticks used and ends its run. An allotment
+    /// that reaches 0 is made full and the thread moves to the rear. Reasons: 0
+    /// tick, the thread stays runnable; 1 block; 2 yield, which fills the
+    /// allotment and moves to the rear; 3 exit, which frees the thread's number
+    /// and reservation.
+    ///
+    /// Refuses, the first that applies:
+    /// - 16 [`REFUSED_UNSOUND`]: the state is not sound
+    /// - 11 [`REFUSED_NOTHING_RUNNING`]: nothing is running
+    /// - 14 [`REFUSED_REASON`]: the reason is above 3
+    /// - 13 [`REFUSED_OVER_SLICE`]: more is used than the slice
+    ///
+    /// The state is then unchanged. Accepted, every other thread and the
+    /// others' mutual order are unchanged, and so are the groups.
+    pub safe fn mtr_by_value_report(state: Scheduler, reason: u64, used: u64) -> Reply;
+
+    /// Answers 1 if the state is sound, else 0.
+    ///
+    /// Refuses nothing.
+    ///
+    /// The state is unchanged.
+    pub safe fn mtr_by_value_sound(state: Scheduler) -> u32;
+
+    /// The reservation of a priority: the priority plus 10.
+    ///
+    /// Refuses, the first that applies:
+    /// - 4 [`REFUSED_AMOUNT`]: the priority is outside 1 to 10
+    ///
+    /// It takes no state, so that any is unchanged.
+    pub safe fn mtr_by_value_priority(priority: u64) -> Mapped;
+
+    /// The reservations in a group and in every group below it, in thousandths.
+    ///
+    /// Refuses, the first that applies:
+    /// - 16 [`REFUSED_UNSOUND`]: the state is not sound
+    /// - 2 [`REFUSED_NO_GROUP`]: the group is above 15 or not open
+    ///
+    /// The state is unchanged.
+    pub safe fn mtr_by_value_subtree(state: Scheduler, group: u64) -> Total;
+
+    /// A thread's lag: its reservation times the meter's growth since its
+    /// anchor, less 1000 times its own ticks since; 0 while it is blocked.
+    ///
+    /// Refuses, the first that applies:
+    /// - 16 [`REFUSED_UNSOUND`]: the state is not sound
+    /// - 7 [`REFUSED_NO_THREAD`]: the number is above 63 or not admitted
+    ///
+    /// The state is unchanged.
+    pub safe fn mtr_by_value_lag(state: Scheduler, number: u64) -> LagLine;
+
+    /// A thread's achieved share: its ticks since admission in thousandths of
+    /// the meter's growth since then, rounded down; 0 if it has not grown.
+    ///
+    /// Refuses, the first that applies:
+    /// - 16 [`REFUSED_UNSOUND`]: the state is not sound
+    /// - 7 [`REFUSED_NO_THREAD`]: the number is above 63 or not admitted
+    ///
+    /// The state is unchanged.
+    pub safe fn mtr_by_value_share(state: Scheduler, number: u64) -> ShareLine;
+
+    /// Fills a lent table with the record of every admitted thread, largest lag
+    /// first, equal lags by lower number.
+    ///
+    /// Refuses, the first that applies:
+    /// - 16 [`REFUSED_UNSOUND`]: the state is not sound
+    /// - 17 [`REFUSED_LENGTH`]: the table is shorter than the number of threads
+    ///
+    /// The table is then unchanged. Accepted, the records past the last are
+    /// unchanged. The state is unchanged.
+    ///
+    /// # Safety
+    ///
+    /// `table` is valid for reads and writes of `table_len` elements, is
+    /// aligned and not null, and nothing else uses them during the call.
+    pub unsafe fn mtr_by_value_roster(state: Scheduler, table: *mut Entry, table_len: usize) -> u32;
+
+    /// Writes the block of this number with the first `count` records to a lent
+    /// area.
+    ///
+    /// Refuses, the first that applies:
+    /// - 17 [`REFUSED_LENGTH`]: the area is not 512 bytes
+    /// - 19 [`REFUSED_FORM`]: more than 31 records, or one with no form: an
+    ///   unknown kind, or a field not zero that its kind does not use
+    ///
+    /// The area is then unchanged.
+    ///
+    /// # Safety
+    ///
+    /// `area` is valid for reads and writes of `area_len` elements, is aligned
+    /// and not null, and nothing else uses them during the call.
+    pub unsafe fn mtr_by_value_write_block(
+        area: *mut u8,
+        area_len: usize,
+        block: u32,
+        list: Records,
+        count: usize,
+    ) -> u32;
+
+    /// Reads the records of the block that is expected to have this number.
+    ///
+    /// Refuses, the first that applies:
+    /// - 17 [`REFUSED_LENGTH`]: the area is not 512 bytes
+    /// - 18 [`REFUSED_CHECK`]: the check is wrong
+    /// - 19 [`REFUSED_FORM`]: the bytes are not those of this block number and
+    ///   0 to 31 well-formed records
+    ///
+    /// The count is then 0 and every record blank. The area is unchanged.
+    ///
+    /// # Safety
+    ///
+    /// `area` is valid for reads of `area_len` elements, is aligned and not
+    /// null, and nothing else uses them during the call.
+    pub unsafe fn mtr_by_value_read_block(area: *const u8, area_len: usize, block: u32) -> Found;
+
+    /// The library's version as one number: 10000 times the major, 100 times
+    /// the minor, and the patch.
+    ///
+    /// Refuses nothing.
+    ///
+    /// It takes no state, so that any is unchanged.
+    pub safe fn mtr_version() -> u32;
+}

@@ -1,0 +1,392 @@
+//! The scheduler as a value with methods.
+
+use crate::refusal::accepted;
+use crate::{numbers, raw, Event, Refusal};
+
+/// The settings that a scheduler is started with.
+#[derive(Clone, Copy, Debug, PartialEq, Eq, Hash)]
+pub struct Settings {
+    /// m: ticks per thousandth of the virtual time quantum, 1 to 1000.
+    pub thousandth: u16,
+    /// P: the preemption interval in ticks, 1 to 1,000,000.
+    pub interval: u32,
+}
+
+impl Default for Settings {
+    /// A quantum of 100 ms and a preemption interval of 20 ms.
+    fn default() -> Self {
+        Settings {
+            thousandth: raw::DEFAULT_THOUSANDTH as u16,
+            interval: raw::DEFAULT_INTERVAL,
+        }
+    }
+}
+
+/// Why a thread's run ended.
+#[derive(Clone, Copy, Debug, PartialEq, Eq, Hash)]
+pub enum Reason {
+    /// It stays runnable.
+    Tick,
+    /// It blocks until it is woken.
+    Block,
+    /// Its allotment is filled and it moves to the rear.
+    Yield,
+    /// It leaves the list and frees its number and reservation.
+    Exit,
+}
+
+impl Reason {
+    /// The number that stands for the reason in event records.
+    pub const fn number(self) -> u8 {
+        (match self {
+            Reason::Tick => raw::REASON_TICK,
+            Reason::Block => raw::REASON_BLOCK,
+            Reason::Yield => raw::REASON_YIELD,
+            Reason::Exit => raw::REASON_EXIT,
+        }) as u8
+    }
+
+    /// The reason of a number; none above 3.
+    pub const fn from_number(number: u8) -> Option<Reason> {
+        match number as u64 {
+            raw::REASON_TICK => Some(Reason::Tick),
+            raw::REASON_BLOCK => Some(Reason::Block),
+            raw::REASON_YIELD => Some(Reason::Yield),
+            raw::REASON_EXIT => Some(Reason::Exit),
+            _ => None,
+        }
+    }
+}
+
+/// What an accepted dispatch decides.
+#[derive(Clone, Copy, Debug, PartialEq, Eq, Hash)]
+pub enum Dispatch {
+    /// The thread runs for at most `slice` ticks. `passed` threads, all
+    /// blocked, stood before it in the list.
+    Run { thread: u8, slice: u32, passed: u32 },
+    /// No thread is runnable; the list has `passed` threads.
+    Idle { passed: u32 },
+}
+
+/// State of an admitted thread.
+#[derive(Clone, Copy, Debug, PartialEq, Eq, Hash, Default)]
+pub enum ThreadState {
+    #[default]
+    Runnable,
+    Blocked,
+    Running,
+}
+
+/// One thread in the roster.
+#[derive(Clone, Copy, Debug, PartialEq, Eq, Hash, Default)]
+pub struct Entry {
+    pub thread: u8,
+    pub state: ThreadState,
+    /// Ticks left of its quantum.
+    pub allotment: u32,
+    /// Thousandths of ticks that it is behind its reservation; below 0 it is
+    /// ahead.
+    pub lag: i64,
+    /// Thousandths of the meter since its admission.
+    pub share: u32,
+}
+
+impl Entry {
+    fn of(entry: &raw::Entry) -> Entry {
+        Entry {
+            thread: entry.number as u8,
+            state: match entry.state {
+                raw::STATE_BLOCKED => ThreadState::Blocked,
+                raw::STATE_RUNNING => ThreadState::Running,
+                _ => ThreadState::Runnable,
+            },
+            allotment: entry.allotment,
+            lag: entry.lag,
+            share: entry.share,
+        }
+    }
+}
+
+/// A move-to-rear list scheduler.
+///
+/// A call that is refused leaves it as it was. Arguments have the types of
+/// event records, so that every call can be journalled as an [`Event`].
+///
+/// ```
+/// use mtr::{Dispatch, Reason, Refusal, Scheduler, Settings};
+///
+/// let mut scheduler = Scheduler::new(Settings::default())?;
+/// scheduler.admit(5, 0, 500)?;
+/// scheduler.admit(7, 0, 100)?;
+/// assert_eq!(scheduler.admit(8, 0, 401), Err(Refusal::NoRoom));
+///
+/// let Dispatch::Run { thread, slice, .. } = scheduler.dispatch()? else {
+///     panic!("two threads are runnable");
+/// };
+/// assert_eq!((thread, slice), (5, 20_000));
+/// scheduler.report(Reason::Block, 12_000)?;
+///
+/// // Thread 5 keeps its place in the list while it is blocked.
+/// let run = Dispatch::Run { thread: 7, slice: 10_000, passed: 1 };
+/// assert_eq!(scheduler.dispatch()?, run);
+/// # Ok::<(), Refusal>(())
+/// ```
+#[derive(Clone, Debug, PartialEq, Eq)]
+pub struct Scheduler {
+    state: raw::Scheduler,
+}
+
+impl Default for Scheduler {
+    /// A scheduler with the default settings, which are in their ranges.
+    fn default() -> Self {
+        let Settings {
+            thousandth,
+            interval,
+        } = Settings::default();
+        Scheduler {
+            state: numbers::start(thousandth.into(), interval.into()).state,
+        }
+    }
+}
+
+impl Scheduler {
+    /// A scheduler with no threads and group 0 open. Refused with
+    /// [`Settings`](Refusal::Settings).
+    pub fn new(settings: Settings) -> Result<Scheduler, Refusal> {
+        let reply = numbers::start(settings.thousandth.into(), settings.interval.into());
+        accepted(reply.answer)?;
+        Ok(Scheduler { state: reply.state })
+    }
+
+    /// Opens a group below an open parent of a lower number. Refused with
+    /// [`NoGroup`](Refusal::NoGroup), [`GroupNumber`](Refusal::GroupNumber),
+    /// [`Amount`](Refusal::Amount) or [`NoRoom`](Refusal::NoRoom).
+    pub fn open(&mut self, group: u8, parent: u8, ceiling: u16) -> Result<(), Refusal> {
+        self.take(numbers::open(
+            self.state,
+            group.into(),
+            parent.into(),
+            ceiling.into(),
+        ))
+    }
+
+    /// Closes a group that has no thread and no child. Refused with
+    /// [`NoGroup`](Refusal::NoGroup) or [`GroupInUse`](Refusal::GroupInUse).
+    pub fn close(&mut self, group: u8) -> Result<(), Refusal> {
+        self.take(numbers::close(self.state, group.into()))
+    }
+
+    /// Admits a thread to a group: runnable, with a full allotment, at the rear
+    /// of the list. Refused with [`NoThread`](Refusal::NoThread),
+    /// [`AlreadyAdmitted`](Refusal::AlreadyAdmitted),
+    /// [`NoGroup`](Refusal::NoGroup), [`Amount`](Refusal::Amount) or
+    /// [`NoRoom`](Refusal::NoRoom).
+    pub fn admit(&mut self, thread: u8, group: u8, reservation: u16) -> Result<(), Refusal> {
+        self.take(numbers::admit(
+            self.state,
+            thread.into(),
+            group.into(),
+            reservation.into(),
+        ))
+    }
+
+    /// Removes a thread that does not run. Refused with
+    /// [`NoThread`](Refusal::NoThread) or
+    /// [`ThreadRunning`](Refusal::ThreadRunning).
+    pub fn remove(&mut self, thread: u8) -> Result<(), Refusal> {
+        self.take(numbers::remove(self.state, thread.into()))
+    }
+
+    /// Makes a blocked thread runnable; it keeps its place and allotment.
+    /// Refused with [`NoThread`](Refusal::NoThread) or
+    /// [`NotBlocked`](Refusal::NotBlocked).
+    pub fn wake(&mut self, thread: u8) -> Result<(), Refusal> {
+        self.take(numbers::wake(self.state, thread.into()))
+    }
+
+    /// Takes the first runnable thread of the list, or is idle. Refused with
+    /// [`Busy`](Refusal::Busy) or [`MeterFull`](Refusal::MeterFull).
+    pub fn dispatch(&mut self) -> Result<Dispatch, Refusal> {
+        let reply = numbers::dispatch(self.state);
+        let (passed, slice) = (reply.before, reply.slice);
+        let dispatch = match reply.thread {
+            raw::NO_THREAD => Dispatch::Idle { passed },
+            thread => Dispatch::Run {
+                thread: thread as u8,
+                slice,
+                passed,
+            },
+        };
+        self.take(reply)?;
+        Ok(dispatch)
+    }
+
+    /// Charges the running thread the ticks used and ends its run. Refused with
+    /// [`NothingRunning`](Refusal::NothingRunning) or
+    /// [`OverSlice`](Refusal::OverSlice).
+    pub fn report(&mut self, reason: Reason, used: u32) -> Result<(), Refusal> {
+        self.take(numbers::report(
+            self.state,
+            reason.number().into(),
+            used.into(),
+        ))
+    }
+
+    /// Makes the call of an event. An accepted start replaces the state; only a
+    /// dispatch has something to tell. Refused as the call is, and a report
+    /// also with [`Reason`](Refusal::Reason).
+    ///
+    /// ```
+    /// use mtr::{Dispatch, Event, Refusal, Scheduler};
+    ///
+    /// let mut scheduler = Scheduler::default();
+    /// let idle = Dispatch::Idle { passed: 0 };
+    /// assert_eq!(scheduler.call(Event::Dispatch), Ok(Some(idle)));
+    /// let wake = Event::Wake { thread: 9 };
+    /// assert_eq!(scheduler.call(wake), Err(Refusal::NoThread));
+    /// ```
+    pub fn call(&mut self, event: Event) -> Result<Option<Dispatch>, Refusal> {
+        match event {
+            Event::Open {
+                group,
+                parent,
+                ceiling,
+            } => self.open(group, parent, ceiling)?,
+            Event::Close { group } => self.close(group)?,
+            Event::Admit {
+                thread,
+                group,
+                reservation,
+            } => self.admit(thread, group, reservation)?,
+            Event::Remove { thread } => self.remove(thread)?,
+            Event::Wake { thread } => self.wake(thread)?,
+            Event::Dispatch => return self.dispatch().map(Some),
+            Event::Report { reason, used } => {
+                self.take(numbers::report(self.state, reason.into(), used.into()))?
+            }
+            Event::Start(settings) => *self = Scheduler::new(settings)?,
+        }
+        Ok(None)
+    }
+
+    /// The state is sound. That of a started scheduler always is, so long as
+    /// nothing else writes its memory; otherwise every call is refused with
+    /// [`Unsound`](Refusal::Unsound).
+    pub fn is_sound(&self) -> bool {
+        numbers::sound(self.state)
+    }
+
+    /// Thousandths reserved in a group and in every group below it. Refused
+    /// with [`NoGroup`](Refusal::NoGroup).
+    pub fn subtree_total(&self, group: u8) -> Result<u16, Refusal> {
+        let total = numbers::subtree(self.state, group.into());
+        accepted(total.answer)?;
+        Ok(total.thousandths as u16)
+    }
+
+    /// A thread's lag: reservation × (meter since its anchor) − 1000 × (its
+    /// ticks since then), and 0 while it is blocked. Refused with
+    /// [`NoThread`](Refusal::NoThread).
+    pub fn lag(&self, thread: u8) -> Result<i64, Refusal> {
+        let lag = numbers::lag(self.state, thread.into());
+        accepted(lag.answer)?;
+        Ok(lag.lag)
+    }
+
+    /// A thread's ticks since its admission, in thousandths of the meter's
+    /// growth since then. Refused with [`NoThread`](Refusal::NoThread).
+    pub fn share(&self, thread: u8) -> Result<u32, Refusal> {
+        let share = numbers::share(self.state, thread.into());
+        accepted(share.answer)?;
+        Ok(share.share)
+    }
+
+    /// Fills a table with every admitted thread, largest lag first, equal lags
+    /// by lower number, and hands out the filled part. Entries past the last
+    /// keep their contents. Refused with [`Length`](Refusal::Length) if the
+    /// table is shorter than the number of threads.
+    ///
+    /// ```
+    /// use mtr::{Entry, Refusal, Scheduler};
+    ///
+    /// let mut scheduler = Scheduler::default();
+    /// scheduler.admit(3, 0, 200)?;
+    /// let mut table = [Entry::default(); 64];
+    /// for entry in scheduler.roster(&mut table)? {
+    ///     println!("thread {} lags {}", entry.thread, entry.lag);
+    /// }
+    /// # Ok::<(), Refusal>(())
+    /// ```
+    pub fn roster<'t>(&self, table: &'t mut [Entry]) -> Result<&'t [Entry], Refusal> {
+        let mut rows = [raw::Entry::default(); raw::THREADS];
+        let length = table.len().min(raw::THREADS);
+        accepted(numbers::roster(self.state, &mut rows[..length]))?;
+        // Accepted, the list has as many threads as records are filled.
+        let filled = (self.state.count as usize).min(length);
+        for (to, from) in table.iter_mut().zip(&rows[..filled]) {
+            *to = Entry::of(from);
+        }
+        Ok(&table[..filled])
+    }
+
+    /// The settings, the greatest value in place of one outside its type.
+    pub fn settings(&self) -> Settings {
+        Settings {
+            thousandth: self
+                .state
+                .settings
+                .thousandth
+                .try_into()
+                .unwrap_or(u16::MAX),
+            interval: self.state.settings.interval,
+        }
+    }
+
+    /// The sum of ticks in all accepted reports since the start.
+    pub fn meter(&self) -> u64 {
+        self.state.meter
+    }
+
+    /// The running thread.
+    pub fn running(&self) -> Option<u8> {
+        (self.state.running < raw::NO_THREAD).then_some(self.state.running as u8)
+    }
+
+    /// The list of all admitted threads, front first; empty if its length makes
+    /// the state unsound.
+    pub fn list(&self) -> &[u8] {
+        let count = self.state.count as usize;
+        self.state.order.get(..count).unwrap_or_default()
+    }
+
+    /// A scheduler of a stored state. Any value is harmless: of a state that is
+    /// not sound every call is refused with [`Unsound`](Refusal::Unsound).
+    pub fn from_raw(state: raw::Scheduler) -> Scheduler {
+        Scheduler { state }
+    }
+
+    /// The state as numbers, to be stored.
+    pub fn as_raw(&self) -> &raw::Scheduler {
+        &self.state
+    }
+
+    /// Takes over the state of an accepted call.
+    fn take(&mut self, reply: raw::Reply) -> Result<(), Refusal> {
+        accepted(reply.answer)?;
+        self.state = reply.state;
+        Ok(())
+    }
+}
+
+/// The reservation of a priority of 1 to 10: the priority plus 10. Refused with
+/// [`Amount`](Refusal::Amount).
+///
+/// ```
+/// assert_eq!(mtr::reservation_of(5), Ok(15));
+/// assert_eq!(mtr::reservation_of(11), Err(mtr::Refusal::Amount));
+/// ```
+pub fn reservation_of(priority: u8) -> Result<u16, Refusal> {
+    let mapped = numbers::priority(priority.into());
+    accepted(mapped.answer)?;
+    Ok(mapped.reservation as u16)
+}

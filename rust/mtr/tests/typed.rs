@@ -1,0 +1,557 @@
+//! The typed interface: the paper's listing, every refusal by name, event
+//! blocks and the roster.
+
+use mtr::{
+    blocks, numbers, raw, reservation_of, Dispatch, Entry, Event, Reason, Refusal, Scheduler,
+    Settings, ThreadState,
+};
+
+const DEFAULT: Settings = Settings {
+    thousandth: 100,
+    interval: 20_000,
+};
+
+fn run(thread: u8, slice: u32, passed: u32) -> Dispatch {
+    Dispatch::Run {
+        thread,
+        slice,
+        passed,
+    }
+}
+
+fn report(reason: Reason, used: u32) -> Event {
+    Event::Report {
+        reason: reason.number(),
+        used,
+    }
+}
+
+fn admit(thread: u8, group: u8, reservation: u16) -> Event {
+    Event::Admit {
+        thread,
+        group,
+        reservation,
+    }
+}
+
+/// A scheduler with threads of these numbers and reservations in group 0.
+fn with(threads: &[(u8, u16)]) -> Scheduler {
+    let mut s = Scheduler::default();
+    for &(thread, reservation) in threads {
+        s.admit(thread, 0, reservation).unwrap();
+    }
+    s
+}
+
+/// The call is refused and leaves the scheduler as it was.
+fn refused<T: std::fmt::Debug + PartialEq>(
+    s: &mut Scheduler,
+    refusal: Refusal,
+    call: impl FnOnce(&mut Scheduler) -> Result<T, Refusal>,
+) {
+    let before = s.clone();
+    assert_eq!(call(s), Err(refusal));
+    assert_eq!(*s, before);
+}
+
+/// The listing's 15 events.
+fn listing() -> [Event; 15] {
+    [
+        Event::Start(DEFAULT),
+        admit(5, 0, 500),
+        admit(7, 0, 100),
+        Event::Dispatch,
+        report(Reason::Tick, 20_000),
+        Event::Dispatch,
+        report(Reason::Block, 12_000),
+        Event::Dispatch,
+        Event::Wake { thread: 5 },
+        report(Reason::Tick, 10_000),
+        Event::Dispatch,
+        Event::Dispatch,
+        report(Reason::Tick, 18_001),
+        report(Reason::Tick, 18_000),
+        Event::Dispatch,
+    ]
+}
+
+#[test]
+fn listing_by_methods() -> Result<(), Refusal> {
+    let mut s = Scheduler::new(DEFAULT)?;
+    s.admit(5, 0, 500)?;
+    s.admit(7, 0, 100)?;
+    assert_eq!(s.dispatch()?, run(5, 20_000, 0));
+    s.report(Reason::Tick, 20_000)?;
+    assert_eq!(s.dispatch()?, run(5, 20_000, 0));
+    assert_eq!(s.running(), Some(5));
+    s.report(Reason::Block, 12_000)?;
+    assert_eq!(s.running(), None);
+    assert_eq!(s.dispatch()?, run(7, 10_000, 1));
+    s.wake(5)?;
+    s.report(Reason::Tick, 10_000)?;
+    assert_eq!(s.list(), [5, 7]);
+    assert_eq!(s.dispatch()?, run(5, 18_000, 0));
+    refused(&mut s, Refusal::Busy, |s| s.dispatch());
+    refused(&mut s, Refusal::OverSlice, |s| {
+        s.report(Reason::Tick, 18_001)
+    });
+    s.report(Reason::Tick, 18_000)?;
+    assert_eq!(s.dispatch()?, run(7, 10_000, 0));
+
+    assert_eq!((s.meter(), s.list()), (60_000, &[7, 5][..]));
+    assert_eq!((s.lag(5)?, s.lag(7)?), (-4_000_000, -4_000_000));
+    assert_eq!((s.share(5)?, s.share(7)?), (833, 166));
+    assert!(s.is_sound());
+    Ok(())
+}
+
+/// The same by events: what mtrrun prints, here as answers and dispatches.
+#[test]
+fn listing_by_events() {
+    let mut s = Scheduler::default();
+    let seen = listing().map(|event| s.call(event));
+    let mut wanted = [Ok(None); 15];
+    wanted[3] = Ok(Some(run(5, 20_000, 0)));
+    wanted[5] = Ok(Some(run(5, 20_000, 0)));
+    wanted[7] = Ok(Some(run(7, 10_000, 1)));
+    wanted[10] = Ok(Some(run(5, 18_000, 0)));
+    wanted[11] = Err(Refusal::Busy);
+    wanted[12] = Err(Refusal::OverSlice);
+    wanted[14] = Ok(Some(run(7, 10_000, 0)));
+    assert_eq!(seen, wanted);
+    assert_eq!((s.lag(5), s.share(7)), (Ok(-4_000_000), Ok(166)));
+}
+
+#[test]
+fn roster_of_the_listing() {
+    let mut s = Scheduler::default();
+    for event in listing() {
+        let _ = s.call(event);
+    }
+    let mark = Entry {
+        thread: 99,
+        ..Entry::default()
+    };
+    let mut table = [mark; 4];
+    let entry = |thread, state, allotment, share| Entry {
+        thread,
+        state,
+        allotment,
+        lag: -4_000_000,
+        share,
+    };
+    let wanted = [
+        entry(5, ThreadState::Runnable, 50_000, 833),
+        entry(7, ThreadState::Running, 10_000, 166),
+    ];
+    assert_eq!(s.roster(&mut table), Ok(&wanted[..]));
+    assert_eq!(table[2..], [mark; 2]);
+
+    let mut short = [mark; 1];
+    assert_eq!(s.roster(&mut short), Err(Refusal::Length));
+    assert_eq!(short, [mark]);
+    assert_eq!(Scheduler::default().roster(&mut []), Ok(&[][..]));
+}
+
+#[test]
+fn full_roster() {
+    let mut s = Scheduler::default();
+    for thread in 0..64 {
+        s.admit(thread, 0, 15).unwrap();
+    }
+    assert_eq!(s.dispatch(), Ok(run(0, 1_500, 0)));
+    s.report(Reason::Block, 1_000).unwrap();
+    assert_eq!(s.dispatch(), Ok(run(1, 1_500, 1)));
+
+    // Longer than the number of threads can be.
+    let mut table = [Entry::default(); 70];
+    let roster = s.roster(&mut table).unwrap();
+    assert_eq!(roster.len(), 64);
+    let threads: Vec<u8> = roster.iter().map(|e| e.thread).collect();
+    // All but the blocked thread lag alike.
+    let wanted: Vec<u8> = (1..64).chain([0]).collect();
+    assert_eq!(threads, wanted);
+    for e in roster {
+        let state = match e.thread {
+            0 => ThreadState::Blocked,
+            1 => ThreadState::Running,
+            _ => ThreadState::Runnable,
+        };
+        assert_eq!((e.state, e.lag), (state, s.lag(e.thread).unwrap()));
+        assert_eq!(e.share, s.share(e.thread).unwrap());
+    }
+    assert_eq!(s.roster(&mut [Entry::default(); 63]), Err(Refusal::Length));
+}
+
+#[test]
+fn numbers_and_names() {
+    let numbers: Vec<u32> = Refusal::ALL.iter().map(|r| r.number()).collect();
+    assert_eq!(numbers, (1..=20).collect::<Vec<u32>>());
+    for &refusal in Refusal::ALL {
+        assert_eq!(Refusal::from_number(refusal.number()), Some(refusal));
+        let error: &dyn std::error::Error = &refusal;
+        assert_eq!(
+            error.to_string(),
+            format!("{}: {}", refusal.number(), refusal.meaning())
+        );
+    }
+    for number in [0, 21, 256, u32::MAX] {
+        assert_eq!(Refusal::from_number(number), None);
+    }
+    for number in 0..=255 {
+        let reason = Reason::from_number(number);
+        assert_eq!(reason.is_some(), number < 4);
+        assert!(reason.is_none_or(|r| r.number() == number));
+    }
+}
+
+#[test]
+fn settings() {
+    assert_eq!(Settings::default(), DEFAULT);
+    assert_eq!(Scheduler::new(DEFAULT), Ok(Scheduler::default()));
+    for (thousandth, interval, accepted) in [
+        (1, 1, true),
+        (1000, 1_000_000, true),
+        (0, 1, false),
+        (1001, 1, false),
+        (1, 0, false),
+        (1, 1_000_001, false),
+        (u16::MAX, u32::MAX, false),
+    ] {
+        let settings = Settings {
+            thousandth,
+            interval,
+        };
+        let started = Scheduler::new(settings);
+        match accepted {
+            true => assert_eq!(started.unwrap().settings(), settings),
+            false => assert_eq!(started, Err(Refusal::Settings)),
+        }
+    }
+    // A refused start leaves the scheduler that it was to replace.
+    let mut s = with(&[(3, 10)]);
+    let bad = Settings {
+        thousandth: 0,
+        interval: 1,
+    };
+    refused(&mut s, Refusal::Settings, |s| s.call(Event::Start(bad)));
+    assert_eq!(s.call(Event::Start(DEFAULT)), Ok(None));
+    assert_eq!(s, Scheduler::default());
+}
+
+#[test]
+fn groups() {
+    let mut s = Scheduler::default();
+    s.open(1, 0, 300).unwrap();
+    s.open(2, 1, 200).unwrap();
+    refused(&mut s, Refusal::NoGroup, |s| s.open(5, 4, 1));
+    refused(&mut s, Refusal::NoGroup, |s| s.open(5, 16, 1));
+    refused(&mut s, Refusal::GroupNumber, |s| s.open(16, 0, 1));
+    refused(&mut s, Refusal::GroupNumber, |s| s.open(1, 0, 1));
+    refused(&mut s, Refusal::GroupNumber, |s| s.open(0, 0, 1));
+    refused(&mut s, Refusal::Amount, |s| s.open(3, 0, 0));
+    refused(&mut s, Refusal::Amount, |s| s.open(3, 0, 1001));
+    refused(&mut s, Refusal::NoRoom, |s| s.open(3, 1, 101));
+    s.open(3, 1, 100).unwrap();
+
+    s.admit(8, 2, 150).unwrap();
+    s.admit(9, 0, 700).unwrap();
+    assert_eq!(s.subtree_total(0), Ok(850));
+    assert_eq!(s.subtree_total(1), Ok(150));
+    assert_eq!(s.subtree_total(3), Ok(0));
+    assert_eq!(s.subtree_total(4), Err(Refusal::NoGroup));
+    assert_eq!(s.subtree_total(16), Err(Refusal::NoGroup));
+
+    refused(&mut s, Refusal::NoGroup, |s| s.close(0));
+    refused(&mut s, Refusal::NoGroup, |s| s.close(4));
+    refused(&mut s, Refusal::GroupInUse, |s| s.close(1));
+    refused(&mut s, Refusal::GroupInUse, |s| s.close(2));
+    s.close(3).unwrap();
+    refused(&mut s, Refusal::NoGroup, |s| s.close(3));
+}
+
+#[test]
+fn threads() {
+    let mut s = with(&[(5, 600)]);
+    refused(&mut s, Refusal::NoThread, |s| s.admit(64, 0, 1));
+    refused(&mut s, Refusal::AlreadyAdmitted, |s| s.admit(5, 0, 1));
+    refused(&mut s, Refusal::NoGroup, |s| s.admit(6, 1, 1));
+    refused(&mut s, Refusal::Amount, |s| s.admit(6, 0, 0));
+    refused(&mut s, Refusal::NoRoom, |s| s.admit(6, 0, 401));
+    s.admit(63, 0, 400).unwrap();
+
+    refused(&mut s, Refusal::NoThread, |s| s.wake(64));
+    refused(&mut s, Refusal::NoThread, |s| s.wake(6));
+    refused(&mut s, Refusal::NotBlocked, |s| s.wake(5));
+    refused(&mut s, Refusal::NoThread, |s| s.remove(6));
+    assert_eq!(s.lag(6), Err(Refusal::NoThread));
+    assert_eq!(s.share(255), Err(Refusal::NoThread));
+
+    refused(&mut s, Refusal::NothingRunning, |s| {
+        s.report(Reason::Tick, 0)
+    });
+    assert_eq!(s.dispatch(), Ok(run(5, 20_000, 0)));
+    refused(&mut s, Refusal::ThreadRunning, |s| s.remove(5));
+    let unknown = Event::Report { reason: 4, used: 0 };
+    refused(&mut s, Refusal::Reason, |s| s.call(unknown));
+    s.report(Reason::Yield, 1).unwrap();
+    assert_eq!(s.list(), [63, 5]);
+    s.remove(63).unwrap();
+    assert_eq!(s.dispatch(), Ok(run(5, 20_000, 0)));
+    s.report(Reason::Exit, 7).unwrap();
+    assert_eq!((s.list(), s.meter()), (&[][..], 8));
+    assert_eq!(s.dispatch(), Ok(Dispatch::Idle { passed: 0 }));
+}
+
+#[test]
+fn idle_tells_the_length_of_the_list() {
+    let mut s = with(&[(1, 10), (2, 10)]);
+    for _ in 0..2 {
+        s.dispatch().unwrap();
+        s.report(Reason::Block, 1).unwrap();
+    }
+    assert_eq!(s.dispatch(), Ok(Dispatch::Idle { passed: 2 }));
+    assert_eq!(s.running(), None);
+}
+
+/// The numbers of statuses and open groups in the state.
+#[test]
+fn state_as_numbers() {
+    let mut s = with(&[(1, 10), (2, 10)]);
+    s.open(3, 0, 5).unwrap();
+    s.dispatch().unwrap();
+    s.report(Reason::Block, 1).unwrap();
+    let state = s.as_raw();
+    for (number, thread) in state.threads.iter().enumerate() {
+        let status = match number {
+            1 => raw::STATUS_BLOCKED,
+            2 => raw::STATUS_RUNNABLE,
+            _ => raw::STATUS_FREE,
+        };
+        assert_eq!(thread.status, status, "{number}");
+    }
+    for (number, group) in state.groups.iter().enumerate() {
+        let opened = match number {
+            0 | 3 => raw::GROUP_OPEN,
+            _ => raw::GROUP_CLOSED,
+        };
+        assert_eq!(group.opened, opened, "{number}");
+    }
+    assert_eq!(state.running, raw::NO_THREAD);
+    assert_eq!(Scheduler::from_raw(*state), s);
+}
+
+#[test]
+fn meter_at_its_limit() {
+    let mut state = *with(&[(1, 10)]).as_raw();
+    state.meter = raw::METER_LIMIT;
+    let mut s = Scheduler::from_raw(state);
+    assert!(s.is_sound());
+    refused(&mut s, Refusal::MeterFull, |s| s.dispatch());
+}
+
+#[test]
+fn unsound_states_are_refused() {
+    let mut state = *with(&[(1, 10)]).as_raw();
+    state.count = 65;
+    state.settings.thousandth = 70_000;
+    let mut s = Scheduler::from_raw(state);
+    assert!(!s.is_sound());
+    refused(&mut s, Refusal::Unsound, |s| s.open(1, 0, 1));
+    refused(&mut s, Refusal::Unsound, |s| s.close(1));
+    refused(&mut s, Refusal::Unsound, |s| s.admit(2, 0, 1));
+    refused(&mut s, Refusal::Unsound, |s| s.remove(1));
+    refused(&mut s, Refusal::Unsound, |s| s.wake(1));
+    refused(&mut s, Refusal::Unsound, |s| s.dispatch());
+    refused(&mut s, Refusal::Unsound, |s| s.report(Reason::Tick, 0));
+    assert_eq!(s.subtree_total(0), Err(Refusal::Unsound));
+    assert_eq!(s.lag(1), Err(Refusal::Unsound));
+    assert_eq!(s.share(1), Err(Refusal::Unsound));
+    let mut table = [Entry::default(); 64];
+    assert_eq!(s.roster(&mut table), Err(Refusal::Unsound));
+    assert_eq!(table, [Entry::default(); 64]);
+    assert_eq!((s.list(), s.settings().thousandth), (&[][..], u16::MAX));
+    // A start needs no sound state.
+    assert_eq!(s.call(Event::Start(DEFAULT)), Ok(None));
+    assert!(s.is_sound());
+}
+
+#[test]
+fn priorities() {
+    for priority in 0..=255 {
+        let wanted = match priority {
+            1..=10 => Ok(priority as u16 + 10),
+            _ => Err(Refusal::Amount),
+        };
+        assert_eq!(reservation_of(priority), wanted);
+    }
+}
+
+/// One event of each kind, with edge values.
+const KINDS: [Event; 8] = [
+    Event::Open {
+        group: 255,
+        parent: 254,
+        ceiling: 65_535,
+    },
+    Event::Close { group: 253 },
+    Event::Admit {
+        thread: 252,
+        group: 251,
+        reservation: 65_534,
+    },
+    Event::Remove { thread: 250 },
+    Event::Wake { thread: 249 },
+    Event::Dispatch,
+    Event::Report {
+        reason: 248,
+        used: u32::MAX,
+    },
+    Event::Start(Settings {
+        thousandth: 65_533,
+        interval: u32::MAX - 1,
+    }),
+];
+
+#[test]
+fn blocks_round_trip() {
+    let events: Vec<Event> = KINDS.iter().copied().cycle().take(32).collect();
+    for count in 0..=31 {
+        for number in [0, 1, u32::MAX] {
+            let mut area = [7; blocks::BYTES];
+            assert_eq!(blocks::write(&mut area, number, &events[..count]), Ok(()));
+            let read = blocks::read(&area, number).unwrap();
+            assert_eq!(*read, events[..count]);
+            assert_eq!((&read).into_iter().count(), count);
+            assert_eq!(format!("{read:?}"), format!("{:?}", &events[..count]));
+            let other = number.wrapping_add(1);
+            assert_eq!(blocks::read(&area, other), Err(Refusal::Form));
+            area[100] ^= 1;
+            assert_eq!(blocks::read(&area, number), Err(Refusal::Check));
+        }
+    }
+    let mut area = [7; blocks::BYTES];
+    assert_eq!(blocks::write(&mut area, 0, &events), Err(Refusal::Form));
+    assert_eq!(area, [7; blocks::BYTES]);
+    for length in [0, 511, 513] {
+        let mut area = vec![7; length];
+        assert_eq!(blocks::write(&mut area, 0, &events), Err(Refusal::Length));
+        assert_eq!(area, vec![7; length]);
+        assert_eq!(blocks::read(&area, 0), Err(Refusal::Length));
+    }
+}
+
+/// The shipped journal is the listing.
+#[test]
+fn shipped_journal() {
+    let path = concat!(env!("CARGO_MANIFEST_DIR"), "/../../crates/mtrrun/stdin");
+    let bytes = std::fs::read(path).unwrap();
+    assert_eq!(*blocks::read(&bytes, 0).unwrap(), listing());
+    let mut area = [0; blocks::BYTES];
+    blocks::write(&mut area, 0, &listing()).unwrap();
+    assert_eq!(area[..], bytes);
+}
+
+/// An event and its record; a record has an event exactly if the library writes
+/// it.
+#[test]
+fn records() {
+    for (i, event) in KINDS.into_iter().enumerate() {
+        let record = raw::Record::from(event);
+        assert_eq!(record.kind as usize, i + 1);
+        assert_eq!(Event::try_from(record), Ok(event));
+    }
+    let mut counts = [0; 2];
+    for kind in 0..=255 {
+        for fields in 0..32u8 {
+            let used = |bit: u8| fields >> bit & 1;
+            let record = raw::Record {
+                kind,
+                subject: used(0),
+                group: used(1),
+                reason: used(2),
+                amount: used(3).into(),
+                ticks: used(4).into(),
+            };
+            let answer = numbers::write_block(&mut [0; blocks::BYTES], 0, &[record]);
+            let event = Event::try_from(record);
+            match answer {
+                0 => assert_eq!(event.map(raw::Record::from), Ok(record)),
+                _ => assert_eq!((answer, event), (19, Err(Refusal::Form))),
+            }
+            counts[(answer == 0) as usize] += 1;
+        }
+    }
+    // Kinds use 3, 1, 3, 1, 1, 0, 2 and 2 fields.
+    assert_eq!(counts[1], 8 + 2 + 8 + 2 + 2 + 1 + 4 + 4);
+    assert_eq!(counts[0] + counts[1], 256 * 32);
+}
+
+/// A scheduler whose calls are journalled.
+struct Host {
+    scheduler: Scheduler,
+    /// Full blocks, and the events that fill none yet.
+    journal: Vec<[u8; blocks::BYTES]>,
+    rest: Vec<Event>,
+    answers: Vec<Result<Option<Dispatch>, Refusal>>,
+}
+
+impl Host {
+    fn call(&mut self, event: Event) -> Result<Option<Dispatch>, Refusal> {
+        self.rest.push(event);
+        if self.rest.len() == blocks::RECORDS {
+            let mut area = [0; blocks::BYTES];
+            blocks::write(&mut area, self.journal.len() as u32, &self.rest).unwrap();
+            self.journal.push(area);
+            self.rest.clear();
+        }
+        let answer = self.scheduler.call(event);
+        self.answers.push(answer);
+        answer
+    }
+}
+
+/// The journal, replayed, gives the same answers and the same scheduler.
+#[test]
+fn journal_and_replay() {
+    let mut host = Host {
+        scheduler: Scheduler::default(),
+        journal: Vec::new(),
+        rest: Vec::new(),
+        answers: Vec::new(),
+    };
+    host.call(Event::Start(DEFAULT)).unwrap();
+    for thread in 0..4 {
+        host.call(admit(thread, 0, 100 + 50 * u16::from(thread)))
+            .unwrap();
+    }
+    let mut blocked = None;
+    for round in 0..120 {
+        let Ok(Some(Dispatch::Run { thread, slice, .. })) = host.call(Event::Dispatch) else {
+            panic!("a thread is runnable");
+        };
+        let reason = match round % 5 {
+            1 => Reason::Block,
+            3 => Reason::Yield,
+            _ => Reason::Tick,
+        };
+        host.call(report(reason, slice / (1 + round % 3))).unwrap();
+        if let Some(thread) = blocked.take() {
+            host.call(Event::Wake { thread }).unwrap();
+        }
+        blocked = (reason == Reason::Block).then_some(thread);
+        assert_eq!(host.call(admit(9, 0, 1000)), Err(Refusal::NoRoom));
+    }
+    assert!(host.journal.len() > 10 && !host.rest.is_empty());
+
+    let mut again = Scheduler::default();
+    let mut answers = Vec::new();
+    for (number, area) in host.journal.iter().enumerate() {
+        for event in &blocks::read(area, number as u32).unwrap() {
+            answers.push(again.call(*event));
+        }
+    }
+    answers.extend(host.rest.iter().map(|event| again.call(*event)));
+    assert_eq!(answers, host.answers);
+    assert_eq!(again, host.scheduler);
+}
