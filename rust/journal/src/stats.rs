@@ -74,9 +74,13 @@ const COLUMNS: [Column; 16] = [
     ("wakes", false, |_, t, _| t.wakes.to_string()),
     ("refused", false, |_, t, _| t.refused.to_string()),
     ("longest run", false, |_, t, _| ms(t.longest_run.ticks)),
-    ("from record", false, |_, t, _| record(t.longest_run.ticks, t.longest_run.record)),
+    ("from record", false, |_, t, _| {
+        record(t.longest_run.ticks, t.longest_run.record)
+    }),
     ("longest wait", false, |_, t, _| ms(t.longest_wait.ticks)),
-    ("from record", false, |_, t, _| record(t.longest_wait.ticks, t.longest_wait.record)),
+    ("from record", false, |_, t, _| {
+        record(t.longest_wait.ticks, t.longest_wait.record)
+    }),
     ("largest lag", false, |_, t, _| lag_ms(t.largest.lag)),
     ("at time", false, |_, t, _| match t.largest.lag {
         0 => "-".into(),
@@ -208,7 +212,8 @@ impl Figures {
     fn gaps(&self, out: &mut String) {
         for gap in &self.survey.gaps {
             let what = match gap.refusal {
-                None => format!("blocks 0 to {} are missing", gap.last),
+                None if gap.damaged == 0 => format!("blocks 0 to {} are missing", gap.last),
+                None => format!("blocks 0 to {} are missing or damaged", gap.last),
                 Some(refusal) if gap.damaged == 1 => format!(
                     "block {} was refused: {refusal}, {}",
                     gap.first,

@@ -135,7 +135,11 @@ pub fn play<E: Engine>(server: Server, length: u64) -> Outcome {
         let (thread, slice) = c.plain(kind::DISPATCH, 0);
         assert!(thread != NONE);
         let n = thread as usize;
-        let until = due.iter().flatten().min().map_or(u64::MAX, |at| at - c.meter);
+        let until = due
+            .iter()
+            .flatten()
+            .min()
+            .map_or(u64::MAX, |at| at - c.meter);
         let used = left[n].min(slice).min(until);
         if left[n] != u64::MAX {
             left[n] -= used;

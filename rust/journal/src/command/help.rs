@@ -7,7 +7,8 @@ const FIRST: &str = "  --first-block N     the first block is number N: the bloc
 ";
 
 /// Of draw and stats: the part to look at.
-const VIEW: &str = "  --from X, --to Y    only the part from X to Y, each a record's number, as 310,
+const VIEW: &str =
+    "  --from X, --to Y    only the part from X to Y, each a record's number, as 310,
                       or a processor time since the journal's beginning with
                       its unit, as 120ms, 1.5s or 2min (us, ms, s, min, h)
   --thread N          only thread N; may be given for several

@@ -211,7 +211,9 @@ impl Job {
                 match number.parse::<u8>().ok().filter(|&n| u64::from(n) <= most) {
                     Some(thread) => self.options.names.give(thread, name),
                     None => {
-                        return usage(format!("--name: '{text}' is not N=NAME, N from 0 to {most}"))
+                        return usage(format!(
+                            "--name: '{text}' is not N=NAME, N from 0 to {most}"
+                        ))
                     }
                 }
             }

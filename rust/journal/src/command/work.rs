@@ -128,7 +128,11 @@ fn note(name: &str, journal: Journal, tally: Tally) {
     };
     let (damaged, blocks) = (tally.damaged, tally.blocks);
     let text = |b: &u8| b.is_ascii_graphic() || b.is_ascii_whitespace();
-    let hint = match journal.blocks().next().and_then(|(_, b)| codec::number_of(b)) {
+    let hint = match journal
+        .blocks()
+        .next()
+        .and_then(|(_, b)| codec::number_of(b))
+    {
         Some(number) if place == journal.first => {
             format!("; the first block is number {number}, '--first-block {number}' reads it")
         }

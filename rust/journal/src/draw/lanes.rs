@@ -275,7 +275,10 @@ fn gap_texts(gap: &Gap) -> Vec<String> {
     let (first, last) = (gap.first, gap.last);
     match gap.refusal {
         None => vec![
-            format!("blocks {first} to {last} are missing or damaged{skipped}"),
+            match gap.damaged {
+                0 => format!("blocks {first} to {last} are missing{skipped}"),
+                _ => format!("blocks {first} to {last} are missing or damaged{skipped}"),
+            },
             format!("blocks {first} to {last} missing"),
             format!("\u{2026}{last}"),
         ],

@@ -165,9 +165,16 @@ mod tests {
     #[test]
     fn texts_are_cut_where_the_room_ends() {
         assert_eq!(fit("readout", 12.0, 100.0), "readout");
-        for text in ["readout of the detector", "WWWWWWWWWWWWWW", "\u{8b80}\u{307f}\u{53d6}\u{308a}\u{8b80}\u{307f}\u{53d6}\u{308a}\u{8b80}"] {
+        for text in [
+            "readout of the detector",
+            "WWWWWWWWWWWWWW",
+            "\u{8b80}\u{307f}\u{53d6}\u{308a}\u{8b80}\u{307f}\u{53d6}\u{308a}\u{8b80}",
+        ] {
             let cut = fit(text, 12.0, 100.0);
-            assert!(cut.ends_with('\u{2026}') && bold(&cut, 12.0) <= 100.0, "{cut}");
+            assert!(
+                cut.ends_with('\u{2026}') && bold(&cut, 12.0) <= 100.0,
+                "{cut}"
+            );
             assert!(bold(&cut, 12.0) > 80.0, "{cut}");
         }
     }

@@ -270,4 +270,3 @@ pub fn encode(
     encoder.problems.truncate(PROBLEMS);
     Err(encoder.problems)
 }
-

@@ -201,4 +201,3 @@ pub(super) fn get_record(word: &[u8], words: &mut Words) -> Option<Result<Record
     };
     Some(read())
 }
-

@@ -6,7 +6,8 @@ pub(crate) fn without_mark(text: &[u8]) -> &[u8] {
 }
 
 /// The words of a line still to be read.
-pub(crate) type Words<'a> = std::iter::Filter<std::slice::Split<'a, u8, fn(&u8) -> bool>, fn(&&[u8]) -> bool>;
+pub(crate) type Words<'a> =
+    std::iter::Filter<std::slice::Split<'a, u8, fn(&u8) -> bool>, fn(&&[u8]) -> bool>;
 
 pub(crate) fn words_of(line: &[u8]) -> Words<'_> {
     let line = match line.iter().position(|&b| b == b'#') {
@@ -62,4 +63,3 @@ pub(super) fn end(words: &mut Words) -> Result<(), String> {
         Some(word) => Err(format!("{} after the end of the line", shown(word))),
     }
 }
-

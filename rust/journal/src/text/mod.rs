@@ -46,4 +46,3 @@ pub struct Problem {
 
 /// No more problems than this are looked for.
 pub const PROBLEMS: usize = 20;
-

@@ -25,7 +25,11 @@ impl Checked {
             last: vec![None; THREADS],
             ..Checked::default()
         };
-        track::<Proved>(Journal::whole(journal), &mut Progress::silent(), &mut checked);
+        track::<Proved>(
+            Journal::whole(journal),
+            &mut Progress::silent(),
+            &mut checked,
+        );
         checked
     }
 }
@@ -180,7 +184,11 @@ fn the_core_given_again_to_the_same_thread_is_one_span() {
     }
     let mut spans = Spans::default();
     let journal = journal.unwrap();
-    track::<Proved>(Journal::whole(&journal), &mut Progress::silent(), &mut spans);
+    track::<Proved>(
+        Journal::whole(&journal),
+        &mut Progress::silent(),
+        &mut spans,
+    );
     let seen: Vec<_> = spans.0.iter().map(|s| (s.thread, s.what, s.to)).collect();
     assert_eq!(seen, [(1, What::Run, 40_005), (2, What::Wait, 40_005)]);
     assert_eq!(spans.0[0].last_lag(), -500 * 40_005);

@@ -219,11 +219,9 @@ impl Sink for Search {
             }
         }
         match to {
-            Some(Mark::Record(number)) if moment.number <= number => {
-                self.to = Some(*moment);
-                self.next = None;
-            }
-            Some(Mark::Time(time)) if moment.after.time <= time => self.next = None,
+            Some(Mark::Record(number)) if moment.number <= number => self.to = Some(*moment),
+            Some(Mark::Time(time)) if moment.after.time <= time => {}
+            None => {}
             _ => {
                 let stood = self.to.map_or(0, |to| to.after.time);
                 if self.next.is_none() && moment.after.time > stood {
@@ -269,7 +267,9 @@ impl Window {
     }
 
     fn shows(&self, thread: u8) -> bool {
-        self.threads.get(thread as usize).is_some_and(|&shown| shown)
+        self.threads
+            .get(thread as usize)
+            .is_some_and(|&shown| shown)
     }
 
     fn holds(&self, at: At, record: u64) -> bool {

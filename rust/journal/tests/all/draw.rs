@@ -145,7 +145,9 @@ fn damaged_blocks_and_starts_are_shown() {
     assert!(drawing.svg.contains("3 starts · 2 blocks damaged"));
     // The state after the last damaged block is not known, the share before is.
     assert!(drawing.svg.contains(">lost<"));
-    assert!(drawing.svg.contains("share of thread 1, up to a damaged block: 1000 ‰"));
+    assert!(drawing
+        .svg
+        .contains("share of thread 1, up to a damaged block: 1000 ‰"));
 }
 
 #[test]
@@ -225,7 +227,9 @@ fn threads_that_left_keep_their_shares() {
 
 #[test]
 fn refusals_are_told_in_words() {
-    let svg = svg(&encode("wake 70\nadmit 1 group 5 reservation 9\nwake 3\nremove 3\n"));
+    let svg = svg(&encode(
+        "wake 70\nadmit 1 group 5 reservation 9\nwake 3\nremove 3\n",
+    ));
     check(&svg);
     let words = "number above 63 or not admitted: 3 times, first at record 0, 0";
     assert!(svg.contains(&format!(">{words}<")));
