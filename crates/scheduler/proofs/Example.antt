@@ -1,4 +1,4 @@
--- The guarantee's hypotheses are met by a concrete stretch: the paper's listing from the state with both threads admitted.
+-- The guarantee's hypotheses are met by a concrete stretch: the listing of RULE 10.1 from the state with both threads admitted.
 use mathlib.Core.Path.{_≡_, refl}
 use mathlib.Core.List.{List, [], _∷_}
 use lib.ListN.{take, drop}
@@ -7,11 +7,11 @@ use Rattle.scheduler.specs.declared.Scheduler.{Scheduler}
 use Rattle.scheduler.specs.Sound.{sound}
 use Rattle.scheduler.specs.Refusals.{Call, admit, wake, dispatch, report}
 use Rattle.scheduler.specs.Effects.{started}
-use Rattle.scheduler.specs.Stretch.{trace, final, allTicks, ticksBy, Protected, Present, Shares}
+use Rattle.scheduler.specs.Stretch.{trace, final, allTicks, ticksBy, Protected, Present, Owed, Second}
 use Rattle.scheduler.proofs.Computes.{computes}
-use Rattle.scheduler.proofs.Guarantee.{guarantee}
+use Rattle.scheduler.proofs.Guarantee.{owed, second}
 
--- the calls of the paper's listing after its start
+-- the calls of the listing after its start
 calls : List Call
 calls =
     admit 5 0 500 ∷ admit 7 0 100 ∷ dispatch ∷ report 0 20000 ∷ dispatch ∷ report 1 12000 ∷ dispatch ∷ wake 5 ∷ report 0 10000 ∷ dispatch ∷ dispatch
@@ -42,5 +42,5 @@ sums : (allTicks (two .running) (trace two rest) ≡ 60000) × (ticksBy 7 (two .
 unfolding computes calls two rest
 sums = (refl, refl, refl)
 
-pub shared : Shares two rest 7 5
-shared = guarantee two two-sound rest 7 5 seven five
+pub shared : Owed two rest 7 × Second two rest 7 5
+shared = (owed two two-sound rest 7 seven, second two two-sound rest 7 5 seven five)

@@ -36,6 +36,10 @@ pub allotment-other : (s : Scheduler) (n : ℕ) (t : Thread) (j : ℕ) → (j �
 unfolding allotmentAt
 allotment-other s n t j a = ap (λ (t : Thread). t .allotment) (thread-other s n t j a)
 
+pub slice-other : (s : Scheduler) (n : ℕ) (t : Thread) (j : ℕ) → (j ≡ n → ⊥) → sliceAt (withThread s n t) j ≡ sliceAt s j
+unfolding sliceAt withThread
+slice-other s n t j a = ap (λ (z : ℕ). min z (s .settings .interval)) (allotment-other s n t j a)
+
 pub allotment-same : (s : Scheduler) (n : ℕ) (t : Thread) → n < length (s .threads) → allotmentAt (withThread s n t) n ≡ t .allotment
 unfolding allotmentAt
 allotment-same s n t h = ap (λ (t : Thread). t .allotment) (thread-same s n t h)
