@@ -58,6 +58,13 @@ pub fn bound(reservation: u64, (m, p): (u64, u64)) -> i64 {
     (2 * f * (1000 - f) * m + f * p) as i64
 }
 
+/// Version of the proved library, as it is told.
+pub fn version() -> String {
+    let number = mtr::version();
+    let (major, minor, patch) = (number / 10_000, number / 100 % 100, number % 100);
+    format!("{major}.{minor}.{patch}")
+}
+
 /// The proved library.
 #[derive(Clone, Debug, Default)]
 pub struct Proved {
@@ -73,19 +80,19 @@ impl Engine for Proved {
         match called {
             Err(refusal) => Reply::plain(refusal.number()),
             Ok(None) => Reply::plain(answer::ACCEPTED),
-            Ok(Some(Dispatch::Idle { passed })) => Reply {
+            Ok(Some(Dispatch::Idle { before })) => Reply {
                 thread: NONE,
-                before: passed,
+                before,
                 ..Reply::default()
             },
             Ok(Some(Dispatch::Run {
                 thread,
                 slice,
-                passed,
+                before,
             })) => Reply {
                 thread: thread.into(),
                 slice,
-                before: passed,
+                before,
                 ..Reply::default()
             },
         }

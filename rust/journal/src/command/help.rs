@@ -23,8 +23,9 @@ const OUTPUT: &str = "  -o, --output FILE   write to FILE, the whole result or n
 
 pub fn version() -> String {
     format!(
-        "journal {}, on the proved library of the scheduler\n",
-        env!("CARGO_PKG_VERSION")
+        "journal {}, on the proved library mtr {}\n",
+        env!("CARGO_PKG_VERSION"),
+        journal::engine::version()
     )
 }
 

@@ -218,13 +218,12 @@ fn help_and_version() {
         }
     }
     let version = run(&["--version"], b"");
-    assert_eq!(
-        (code(&version), version.stdout.as_slice()),
-        (
-            0,
-            &b"journal 0.1.0, on the proved library of the scheduler\n"[..]
-        )
+    let told = format!(
+        "journal {}, on the proved library mtr {}\n",
+        env!("CARGO_PKG_VERSION"),
+        journal::engine::version()
     );
+    assert_eq!((code(&version), version.stdout), (0, told.into_bytes()));
 }
 
 #[test]
