@@ -3,7 +3,7 @@
 use Prim.Native.Nat.{ℕ, _+_, _*_, _≤_, _<_}
 use mathlib.Core.Path.{_≡_, refl, sym, subst, _∙_}
 use mathlib.Core.List.{List}
-use mathlib.Core.Bool.{Bool, true, false, cond, _&&_, _||_}
+use mathlib.Core.Bool.{Bool, true, false, cond, _&&_, _||_, and-false}
 use native.Mathlib.Omega.{arith}
 use lib.ListN.{length, getD, set, replicate, length-set, getD-replicate}
 use lib.Seq.{getD-set-same, getD-set-other}
@@ -25,20 +25,16 @@ pub fails : (a b : Bool) → (T a → T b) → b ≡ false → false ≡ a
 fails true b f e = absurd (subst T e (f tt))
 fails false b f e = refl
 
-pub and-none : (b : Bool) → (b && false) ≡ false
-and-none true = refl
-and-none false = refl
-
 -- A reservation f and its allotment a. No allotment of at least 1 fits a reservation of 0, so that one is not tested for.
 
 module _ (f a m : ℕ) where
   pub quota-over : 1000 < f → false ≡ (within 1 1000 f && within 1 (f * m) a)
   unfolding within
-  quota-over h = sym (rw (lt-leb f 1000 h, and-none (leb 1 f)))
+  quota-over h = sym (rw (lt-leb f 1000 h, and-false (leb 1 f)))
 
   pub quota-none : a < 1 → false ≡ (within 1 1000 f && within 1 (f * m) a)
   unfolding within
-  quota-none h = sym (rw (lt-leb 1 a h, and-none (leb 1 f && leb f 1000)))
+  quota-none h = sym (rw (lt-leb 1 a h, and-false (leb 1 f && leb f 1000)))
 
   pub quota-fits : f ≤ 1000 → 1 ≤ a → leb a (f * m) ≡ (within 1 1000 f && within 1 (f * m) a)
   unfolding within
