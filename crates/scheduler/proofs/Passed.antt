@@ -2,20 +2,20 @@
 use Prim.Native.Nat.{ℕ, _≤_, _<_}
 use mathlib.Core.Path.{_≡_, sym}
 use mathlib.Core.List.{[]}
-use mathlib.Core.Bool.{true, false, not, cond, _&&_, _||_}
+use mathlib.Core.Bool.{false, not, cond, _&&_, _||_}
 use native.Mathlib.Omega.{arith}
 use lib.Dec.{T, ltb, leb, eqb, lit<, leb→le}
 use borrow.Author.Tests.{eqb-true, eqb-false, ltb-false, leb-false, not-false}
 use Rattle.base.specs.Checks.{within, _⇒_, firstOf}
-use Rattle.base.specs.Lists.{everyBelow, passed}
+use Rattle.base.specs.Lists.{everyBelow}
 use Rattle.base.proofs.Bools.{by, and-l, and-r, holds, or-false-l, or-false-r}
 use Rattle.scheduler.specs.declared.Thread.{Thread}
 use Rattle.scheduler.specs.declared.Scheduler.{Scheduler}
 use Rattle.scheduler.specs.State.{threadAt, admittedAt, openAt, sliceAt}
 use Rattle.scheduler.specs.Sound.{threadIn, childOf, sound}
-use Rattle.scheduler.specs.Refusals.{Call, openGroup, closeGroup, admit, remove, wake, dispatch, report, free, inUse, checks, refusal, startRefusal}
+use Rattle.scheduler.specs.Refusals.{Call, openGroup, closeGroup, admit, remove, wake, dispatch, report, free, inUse, checks, refusal}
+use Rattle.scheduler.specs.Refusals.{startRefusal}
 use Rattle.scheduler.specs.Effects.{toRear, renewed, charged, exited, reported}
-use Rattle.scheduler.specs.Stretch.{accepted}
 use Rattle.scheduler.proofs.Facts.{peel}
 
 -- an accepted call passed the soundness check and its own
@@ -38,8 +38,11 @@ pub remove-passed : (s : Scheduler) (n : ℕ) → firstOf (checks (remove n) s) 
 unfolding checks
 remove-passed s n e =
     let c1 = peel (ltb 63 n || not (admittedAt s n) ⇒ 7) _ (lit< tt) e in
-    let c2 = peel (eqb (s .running) n ⇒ 9) _ (lit< tt) (c1 .1) in
-    (holds (admittedAt s n) (not-false (admittedAt s n) (or-false-r (ltb 63 n) (not (admittedAt s n)) (c1 .0))), λ z. eqb-false (s .running) n (c2 .0) (sym z))
+    let c2 = peel (eqb (s .running) n ⇒ 9) _ (lit< tt) (c1 .1) in (
+      holds (admittedAt s n) (not-false (admittedAt s n) (or-false-r (ltb 63 n) (not (admittedAt s n)) (c1 .0))),
+      λ z. eqb-false (s .running)
+          n (c2 .0) (sym z),
+    )
 
 pub wake-passed : (s : Scheduler) (n : ℕ) → firstOf (checks (wake n) s) ≡ 0 → T (admittedAt s n)
 unfolding checks
@@ -53,7 +56,8 @@ dispatch-passed s e =
     let c1 = peel (not (eqb (s .running) 64) ⇒ 12) _ (lit< tt) e in
     eqb-true (s .running) 64 (not-false (eqb (s .running) 64) (c1 .0))
 
-pub report-passed : (s : Scheduler) (reason used : ℕ) → firstOf (checks (report reason used) s) ≡ 0 → (s .running ≡ 64 → ⊥) × (used ≤ sliceAt s (s .running))
+pub report-passed : (s : Scheduler) (reason used : ℕ) → firstOf (checks (report reason used) s) ≡ 0
+    → (s .running ≡ 64 → ⊥) × (used ≤ sliceAt s (s .running))
 unfolding checks
 report-passed s reason used e =
     let c1 = peel (eqb (s .running) 64 ⇒ 11) _ (lit< tt) e in
@@ -151,9 +155,11 @@ pub reported-cases : (P : Scheduler → Type 0) (r reason used : ℕ) (s : Sched
 unfolding reported
 reported-cases P r reason used s a b c =
     by (λ d. (T d → P (exited r used s)) → (T (not d) → P (toRear r (charged r reason used s))) → (T (not d) → P (charged r reason used s))
-    → P (cond d (exited r used s) (cond (renewed reason used (threadAt s r)) (toRear r (charged r reason used s)) (charged r reason used s)))) (eqb reason 3)
+    → P (cond d (exited r used s) (cond (renewed reason used (threadAt s r)) (toRear r (charged r reason used s))
+    (charged r reason used s)))) (eqb reason 3)
     (λ _ u v w. u tt)
-    (λ _ u v w. by (λ d. P (cond d (toRear r (charged r reason used s)) (charged r reason used s))) (renewed reason used (threadAt s r)) (λ _. v tt) (λ _. w tt))
+    (λ _ u v w. by (λ d. P (cond d (toRear r (charged r reason used s)) (charged r reason used s))) (renewed reason used (threadAt s r))
+    (λ _. v tt) (λ _. w tt))
     a b c
 
 -- a thread that is not renewed has something left

@@ -55,7 +55,9 @@ pub charged-left : (s : Scheduler) (r reason used : ℕ) → r < length (s .thre
     → allotmentAt (withThread s r (chargedThread s reason used (threadAt s r))) r + used ≡ allotmentAt s r
 unfolding chargedThread allotmentAt
 charged-left s r reason used h e =
-    let q = charged-allotment s r reason used h ∙ ap (λ (b : Bool). cond b (reservationAt s r * s .settings .thousandth) (allotmentAt s r - used)) e in
+    let q =
+    charged-allotment s r reason used h ∙ ap (λ (b : Bool). cond b (reservationAt s r * s .settings .thousandth) (allotmentAt s r - used))
+    e in
     omega (arith, q, not-used-up reason used (threadAt s r) e)
 
 pub charged-full : (s : Scheduler) (r reason used : ℕ) → r < length (s .threads) → renewed reason used (threadAt s r) ≡ true
@@ -63,7 +65,8 @@ pub charged-full : (s : Scheduler) (r reason used : ℕ) → r < length (s .thre
 charged-full s r reason used h e =
     charged-allotment s r reason used h ∙ ap (λ (b : Bool). cond b (reservationAt s r * s .settings .thousandth) (allotmentAt s r - used)) e
 
-pub woken-allotment : (s : Scheduler) → Facts s → (n : ℕ) → T (admittedAt s n) → (j : ℕ) → allotmentAt (withThread s n (wokenThread s (threadAt s n))) j ≡ allotmentAt s j
+pub woken-allotment : (s : Scheduler) → Facts s → (n : ℕ) → T (admittedAt s n) → (j : ℕ)
+    → allotmentAt (withThread s n (wokenThread s (threadAt s n))) j ≡ allotmentAt s j
 unfolding allotmentAt wokenThread
 woken-allotment s k n a j =
     by (λ b. eqb j n ≡ b → allotmentAt (withThread s n (wokenThread s (threadAt s n))) j ≡ allotmentAt s j) (eqb j n)
