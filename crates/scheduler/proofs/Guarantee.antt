@@ -157,8 +157,9 @@ owed s t cs x px =
     let sums : f * ticksIn sel last es + potential f h sel x (final s cs) ≤ potential f h sel x s + h * ticksIn (λ n. eqb n x) last es =
     stretch f f h sel x x (ap not (eq-eqb x x refl)) (others x f) cs s last (λ _. refl) guard res (px .keeps) stays in
     let w = mul-le-mul-left f (weight-all s k sel x h (others x f s t guard res)) in
-    owed-all f h m p (ticksIn anyone last es) (ticksIn sel last es) (ticksIn (λ n. eqb n x) last es) (weight sel x s)
-    (f * m - allotmentAt s x) (omega arith) (ticks-split x last es) (sub-le (f * m) (allotmentAt s x)) (omega (arith, sums)) w
+    let all = owed-all f h m p (ticksIn anyone last es) (ticksIn sel last es) (ticksIn (λ n. eqb n x) last es) (weight sel x s)
+    (f * m - allotmentAt s x) (omega arith) (ticks-split x last es) (sub-le (f * m) (allotmentAt s x)) (omega (arith, sums)) w in
+    omega (arith, all)
 
 -- The limit on a second thread: y alone counts, at the rate of its reservation. It needs no sum over the others.
 
@@ -183,8 +184,9 @@ second-apart s t cs x y apart px py =
     let sums : f * ticksIn sel last es + potential f g sel x (final s cs) ≤ potential f g sel x s + g * ticksIn (λ n. eqb n x) last es =
     stretch f g g sel x y (ne-eqb x y apart) (λ s t _ r. alone y g s t r) cs s last (λ _. refl) guard res (px .keeps) (py .keeps) in
     let w = mul-le-mul-left f (weight-one s k x y g (py .reserved) refl) in
-    owed-one f g m (ticksIn sel last es) (ticksIn (λ n. eqb n x) last es) (weight sel x s) (f * m - allotmentAt s x)
-    (sub-le (f * m) (allotmentAt s x)) (omega (arith, sums)) w
+    let one = owed-one f g m (ticksIn sel last es) (ticksIn (λ n. eqb n x) last es) (weight sel x s) (f * m - allotmentAt s x)
+    (sub-le (f * m) (allotmentAt s x)) (omega (arith, sums)) w in
+    omega (arith, one)
 
 pub second : (s : Scheduler) → T (sound s) → (cs : List Call) (x y : ℕ) → Protected s cs x → Present s cs y → Second s cs x y
 second s t cs x y px py =

@@ -9,9 +9,9 @@ use lib.ListN.{length, getD, take}
 use lib.Dec.{T, ltb, leb, eqb, ltb→lt}
 use borrow.Author.Tests.{eqb-true, eqb-false, ne-eqb, eq-eqb, lt-leb}
 use lib.IntN.{pos, subℕ}
-use Rattle.base.specs.Lists.{without, everyOf}
+use Rattle.base.specs.Lists.{member, without, everyOf}
 use Rattle.base.proofs.Bools.{cases, and-l, isn't, holds, deny}
-use Rattle.base.proofs.Lists.{before, everyOf-at, everyOf-map, first-found, passed-before, passed-at, passed-all, first-none, without-snoc}
+use Rattle.base.proofs.Lists.{before, everyOf-at, everyOf-map, passed-before, passed-at, passed-all, first-none, without-snoc}
 use Rattle.base.proofs.Lists.{without-twice, member-take}
 use Rattle.scheduler.specs.declared.Thread.{Thread}
 use Rattle.scheduler.specs.declared.Scheduler.{Scheduler}
@@ -24,7 +24,7 @@ use Rattle.scheduler.specs.Rule.{isDispatch, accept, refuse, step}
 use Rattle.scheduler.proofs.Facts.{Facts, facts, admitted-reserved, in-threads, member-admitted, fits, take-rear, take-off, room}
 use Rattle.scheduler.proofs.Facts.{listed-join, thread-same, unlisted}
 use Rattle.scheduler.proofs.Passed.{passes, admit-passed, remove-passed, wake-passed, report-passed, reported-cases}
-use Rattle.scheduler.proofs.Steps.{step-state, refused-state, woken-allotment, charged-left}
+use Rattle.scheduler.proofs.Steps.{step-state, refused-state, woken-listed, chosen-runnable, woken-allotment, charged-left}
 use Rattle.scheduler.specs.Accounts.{lagOf}
 
 -- the thread that a call puts into the list, takes off it or may move, or 64
@@ -54,8 +54,8 @@ unfolding listed exited offList toRear charged withList withRun withThread rear
 kept-report s k r reason used a =
     reported-cases (λ s′. without r (listed s′) ≡ without r (listed s)) r reason used s
     (λ _. kept-off s k r a)
-    (λ _. kept-rear s k r a)
-    (λ _. refl)
+    (λ _ _. kept-rear s k r a)
+    (λ _ _. refl)
 
 kept-accepted : (c : Call) (s : Scheduler) → refusal c s ≡ 0 → without (mover c s) (listed (effect c s)) ≡ without (mover c s) (listed s)
 unfolding effect mover listed withGroup withThread withRun withList offList rear
@@ -111,16 +111,23 @@ left-keeps reason used s e small left =
 -- RULE 2.8.
 pub wake-keeps : (n : ℕ) (s : Scheduler) → refusal (wake n) s ≡ 0
     → (listed (effect (wake n) s) ≡ listed s) × ((j : ℕ) → allotmentAt (effect (wake n) s) j ≡ allotmentAt s j)
-unfolding effect listed withThread withList toRear
+unfolding effect
 wake-keeps n s e =
     let ok = passes (wake n) s e in
-    (refl, woken-allotment s (facts s (ok .0)) n (wake-passed s n (ok .1)))
+    (woken-listed n s, woken-allotment s (facts s (ok .0)) n (wake-passed s n (ok .1)))
 
 below-64 : (s : Scheduler) → Facts s → T (everyOf (λ n. ltb n 64) (listed s))
 below-64 s k =
     everyOf-map (λ n. ltb n 64 && reservedAt s n) (λ n. ltb n 64) (listed s) (λ j _ u. and-l (ltb j 64) (reservedAt s j) u) (k .members)
 
--- RULE 2.4: idle if and only if no thread is runnable.
+-- RULE 2.4: a dispatch that is not idle names a runnable thread of the list; it is idle if and only if no thread is runnable.
+pub run-runnable : (s : Scheduler) → refusal dispatch s ≡ 0 → ((step dispatch s) .thread ≡ 64 → ⊥)
+    → T (member ((step dispatch s) .thread) (listed s)) × T (runnableAt s ((step dispatch s) .thread))
+unfolding accept isDispatch
+run-runnable s e ran =
+    let same = step-state dispatch s e in
+    rw same (chosen-runnable s (rw same at ran))
+
 pub idle-only : (s : Scheduler) → refusal dispatch s ≡ 0 → (step dispatch s) .thread ≡ 64 → (n : ℕ) → T (admittedAt s n)
     → T (runnableAt s n) → ⊥
 unfolding accept isDispatch chosen
@@ -138,7 +145,7 @@ idle-if s e none =
     (λ q. eqb-true (chosen s) 64 q)
     (λ q.
     let k = facts s ((passes dispatch s e) .0) in
-    let c = first-found (runnableAt s) (listed s) (eqb-false (chosen s) 64 q) in
+    let c = chosen-runnable s (eqb-false (chosen s) 64 q) in
     absurd (none (chosen s) (member-admitted s k (chosen s) (c .0)) (c .1))))
 
 -- in a sound state an admitted thread that is not runnable is blocked

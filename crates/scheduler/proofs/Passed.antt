@@ -1,14 +1,14 @@
 -- What the checks of an accepted call say, call by call; and the three ways a report can end.
 use Prim.Native.Nat.{ℕ, _≤_, _<_}
-use mathlib.Core.Path.{_≡_, sym}
+use mathlib.Core.Path.{_≡_, sym, subst}
 use mathlib.Core.List.{[]}
-use mathlib.Core.Bool.{false, not, cond, _&&_, _||_}
+use mathlib.Core.Bool.{true, false, not, _&&_, _||_}
 use native.Mathlib.Omega.{arith}
 use lib.Dec.{T, ltb, leb, eqb, lit<, leb→le}
 use borrow.Author.Tests.{eqb-true, eqb-false, ltb-false, leb-false, not-false}
 use Rattle.base.specs.Checks.{within, _⇒_, firstOf}
 use Rattle.base.specs.Lists.{everyBelow}
-use Rattle.base.proofs.Bools.{by, and-l, and-r, holds, or-false-l, or-false-r}
+use Rattle.base.proofs.Bools.{cases, and-l, and-r, holds, or-false-l, or-false-r}
 use Rattle.scheduler.specs.declared.Thread.{Thread}
 use Rattle.scheduler.specs.declared.Scheduler.{Scheduler}
 use Rattle.scheduler.specs.State.{threadAt, admittedAt, openAt, sliceAt}
@@ -146,21 +146,34 @@ close-ok s n e =
       no-child = holds b (not-false b (or-false-r (not a) (not b) (c2 .0)));
     }
 
--- a property of the state after a report, way by way
-pub reported-cases : (P : Scheduler → Type 0) (r reason used : ℕ) (s : Scheduler)
-    → (T (eqb reason 3) → P (exited r used s))
-    → (T (not (eqb reason 3)) → P (toRear r (charged r reason used s)))
-    → (T (not (eqb reason 3)) → P (charged r reason used s))
-    → P (reported r reason used s)
+-- The three ways a report can end: in its place with what is left, at the rear with a full allotment, or off the list.
+
+pub reported-kept : (r reason used : ℕ) (s : Scheduler) → eqb reason 3 ≡ false → renewed reason used (threadAt s r) ≡ false
+    → reported r reason used s ≡ charged r reason used s
 unfolding reported
-reported-cases P r reason used s a b c =
-    by (λ d. (T d → P (exited r used s)) → (T (not d) → P (toRear r (charged r reason used s))) → (T (not d) → P (charged r reason used s))
-    → P (cond d (exited r used s) (cond (renewed reason used (threadAt s r)) (toRear r (charged r reason used s))
-    (charged r reason used s)))) (eqb reason 3)
-    (λ _ u v w. u tt)
-    (λ _ u v w. by (λ d. P (cond d (toRear r (charged r reason used s)) (charged r reason used s))) (renewed reason used (threadAt s r))
-    (λ _. v tt) (λ _. w tt))
-    a b c
+reported-kept r reason used s e q = rw (e, q)
+
+pub reported-rear : (r reason used : ℕ) (s : Scheduler) → eqb reason 3 ≡ false → renewed reason used (threadAt s r) ≡ true
+    → reported r reason used s ≡ toRear r (charged r reason used s)
+unfolding reported
+reported-rear r reason used s e q = rw (e, q)
+
+pub reported-off : (r reason used : ℕ) (s : Scheduler) → eqb reason 3 ≡ true → reported r reason used s ≡ exited r used s
+unfolding reported
+reported-off r reason used s e = rw e
+
+-- so a property of the state after a report goes way by way
+pub reported-cases : (P : Scheduler → Type 0) (r reason used : ℕ) (s : Scheduler)
+    → (eqb reason 3 ≡ true → P (exited r used s))
+    → (eqb reason 3 ≡ false → renewed reason used (threadAt s r) ≡ true → P (toRear r (charged r reason used s)))
+    → (eqb reason 3 ≡ false → renewed reason used (threadAt s r) ≡ false → P (charged r reason used s))
+    → P (reported r reason used s)
+reported-cases P r reason used s off rear kept =
+    cases (eqb reason 3)
+    (λ e. subst P (sym (reported-off r reason used s e)) (off e))
+    (λ e. cases (renewed reason used (threadAt s r))
+    (λ q. subst P (sym (reported-rear r reason used s e q)) (rear e q))
+    (λ q. subst P (sym (reported-kept r reason used s e q)) (kept e q)))
 
 -- a thread that is not renewed has something left
 pub not-used-up : (reason used : ℕ) (t : Thread) → renewed reason used t ≡ false → used < t .allotment

@@ -29,7 +29,7 @@ settings-kept (remove n) s = refl
 settings-kept (wake n) s = refl
 settings-kept dispatch s = refl
 settings-kept (report reason used) s =
-    reported-cases (λ s′. s′ .settings ≡ s .settings) (s .running) reason used s (λ _. refl) (λ _. refl) (λ _. refl)
+    reported-cases (λ s′. s′ .settings ≡ s .settings) (s .running) reason used s (λ _. refl) (λ _ _. refl) (λ _ _. refl)
 
 -- the thread that runs is the one last named
 pub running-named : (c : Call) (s : Scheduler) (last : ℕ) → ((s .running ≡ 64 → ⊥) → s .running ≡ last)
@@ -43,7 +43,7 @@ running-named (wake n) s last h = h
 running-named dispatch s last h = λ _. refl
 running-named (report reason used) s last h =
     reported-cases (λ s′. (s′ .running ≡ 64 → ⊥) → s′ .running ≡ last) (s .running) reason used s
-    (λ _ u. absurd (u refl)) (λ _ u. absurd (u refl)) (λ _ u. absurd (u refl))
+    (λ _ u. absurd (u refl)) (λ _ _ u. absurd (u refl)) (λ _ _ u. absurd (u refl))
 
 -- an admitted thread y
 pub record Held (y last : ℕ) (c : Call) (s s′ : Scheduler) : Type 0 where
@@ -106,9 +106,9 @@ unfolding withRun withList toRear charged
 held-own y last reason used s h z q =
     let t = chargedThread s reason used (threadAt s y) in
     reported-cases (Held y last (report reason used) s) y reason used s
-    (λ u. absurd (clash (eqb reason 3) (is (eqb reason 3) u) (isn't (eqb reason 3) q)))
-    (λ _. held-charged y last reason used s (toRear y (charged y reason used s)) z (thread-same s y t h))
-    (λ _. held-charged y last reason used s (charged y reason used s) z (thread-same s y t h))
+    (λ u. absurd (clash (eqb reason 3) u (isn't (eqb reason 3) q)))
+    (λ _ _. held-charged y last reason used s (toRear y (charged y reason used s)) z (thread-same s y t h))
+    (λ _ _. held-charged y last reason used s (charged y reason used s) z (thread-same s y t h))
 
 -- a report: another runs
 held-other : (y last r reason used : ℕ) (s : Scheduler) → (y ≡ r → ⊥) → r ≡ last
@@ -119,8 +119,8 @@ held-other y last r reason used s ne z =
     let none : cond (eqb last y) used 0 ≡ 0 = rw (ne-eqb last y (λ w. ne (sym w ∙ sym z))) in
     reported-cases (Held y last (report reason used) s) r reason used s
     (λ _. untouched y last (report reason used) s (exited r used s) (thread-other s r noThread y ne) none)
-    (λ _. untouched y last (report reason used) s (toRear r (charged r reason used s)) (thread-other s r t y ne) none)
-    (λ _. untouched y last (report reason used) s (charged r reason used s) (thread-other s r t y ne) none)
+    (λ _ _. untouched y last (report reason used) s (toRear r (charged r reason used s)) (thread-other s r t y ne) none)
+    (λ _ _. untouched y last (report reason used) s (charged r reason used s) (thread-other s r t y ne) none)
 
 pub held : (y last : ℕ) (c : Call) (s : Scheduler) → refusal c s ≡ 0 → ((s .running ≡ 64 → ⊥) → s .running ≡ last) → T (admittedAt s y)
     → T (keepsAdmitted y last c)

@@ -3,7 +3,7 @@
 use Prim.Native.Nat.{ℕ, _+_, _-_, _*_, _≤_, _<_}
 use mathlib.Core.Path.{_≡_, refl, sym, ap, subst, _∙_, fun-ext}
 use mathlib.Core.List.{List, [], _∷_, _++_}
-use mathlib.Core.Bool.{Bool, true, false, not, cond, _||_}
+use mathlib.Core.Bool.{Bool, true, false, not, cond, _||_, false≢true}
 use native.Mathlib.Omega.{arith}
 use native.Mathlib.Nat.{le-of-eq, min-le-left}
 use lib.Dec.{T, eqb}
@@ -26,7 +26,7 @@ use Rattle.scheduler.proofs.Facts.{fits, take-rear, take-off, room, lis
 use Rattle.scheduler.proofs.Share.Gauge.{gauge, gauge-join, gauge-leave, gauge-run, gauge-stay, gauge-off, gauge-rear, gauge-self}
 use Rattle.scheduler.proofs.Share.Gauge.{gauge-turn, quiet-step, run-step, turn-step}
 use Rattle.scheduler.proofs.Steps.{allotment-other, slice-other, charged-left, charged-full, woken-allotment}
-use Rattle.scheduler.proofs.Passed.{passes, admit-passed, remove-passed, wake-passed, dispatch-passed, report-passed}
+use Rattle.scheduler.proofs.Passed.{passes, admit-passed, remove-passed, wake-passed, dispatch-passed, report-passed, reported-cases}
 
 -- the potential of x, with the threads that sel picks
 unfoldable pub weight : (ℕ → Bool) → ℕ → Scheduler → ℕ
@@ -199,16 +199,9 @@ module _ (sel : ℕ → Bool) (x : ℕ) (off : sel x ≡ false) (s : Scheduler) 
 
     -- every way a report by another thread can end
     report-quiet : Quiet sel x s (reported r reason used s) (cond (sel r) used 0)
-    unfolding reported
     report-quiet =
-        by (λ b. Quiet sel x s (cond b (exited r used s) (cond (renewed reason used (threadAt s r)) (toRear r (charged r reason used s))
-        (charged r reason used s))) (cond (sel r) used 0)) (eqb reason 3)
-        (λ _. exit-quiet)
-        (λ _. by (λ b. renewed reason used (threadAt s r) ≡ b → Quiet sel x s (cond b (toRear r (charged r reason used s))
-        (charged r reason used s)) (cond (sel r) used 0)) (renewed reason used (threadAt s r))
-        (λ _ _. rear-quiet)
-        (λ e _. stay-quiet e)
-        refl)
+        reported-cases (λ s′. Quiet sel x s s′ (cond (sel r) used 0)) r reason used s (λ _. exit-quiet) (λ _ _. rear-quiet)
+        (λ _ e. stay-quiet e)
 
   -- a report by x, with reason 0
   module _ (f h : ℕ) (is-x : s .running ≡ x) (is-f : reservationAt s x ≡ f) (sum : sumOf (mask sel (reservationAt s)) (listed s) ≤ h)
@@ -259,13 +252,9 @@ module _ (sel : ℕ → Bool) (x : ℕ) (off : sel x ≡ false) (s : Scheduler) 
         (s .settings .thousandth) h each sum))
 
     self-report : potential f h sel x (reported x 0 used s) ≤ potential f h sel x s + h * used
-    unfolding reported
     self-report =
-        by (λ b. renewed 0 used (threadAt s x) ≡ b → potential f h sel x (cond b (toRear x (charged x 0 used s)) (charged x 0 used s)) ≤
-        potential f h sel x s + h * used) (renewed 0 used (threadAt s x))
-        (λ e _. self-turn e)
-        (λ e _. self-stay e)
-        refl
+        reported-cases (λ s′. potential f h sel x s′ ≤ potential f h sel x s + h * used) x 0 used s
+        (λ e. absurd (false≢true e)) (λ _ e. self-turn e) (λ _ e. self-stay e)
 
 -- The bound of one accepted call.
 

@@ -12,7 +12,7 @@ use borrow.Author.Tests.{eqb-true, eqb-false}
 use Rattle.base.specs.Lists.{member, distinct, without, everyOf}
 use Rattle.base.proofs.Bools.{by, and-l, and-r, both, is}
 use Rattle.base.proofs.Lists.{member-without, everyOf-without, distinct-without, member-self, everyOf-map, everyOf-snoc, member-left}
-use Rattle.base.proofs.Lists.{member-last, distinct-snoc, first-found}
+use Rattle.base.proofs.Lists.{member-last, distinct-snoc}
 use Rattle.scheduler.specs.declared.Thread.{Thread}
 use Rattle.scheduler.specs.declared.Scheduler.{Scheduler}
 use Rattle.scheduler.specs.State.{noThread, threadAt, groupAt, admittedAt, reservedAt, runnableAt, allotmentAt, openAt, listed}
@@ -25,6 +25,7 @@ use Rattle.scheduler.proofs.Facts.{Fit, Account, ThreadFacts, RunFacts,
 use Rattle.scheduler.proofs.Facts.{settings-facts, take-rear, take-off, length-rear, room, listed-join, thread-other, thread-same}
 use Rattle.scheduler.proofs.Facts.{unlisted}
 use Rattle.scheduler.proofs.Passed.{not-used-up, reported-cases, AdmitOk}
+use Rattle.scheduler.proofs.Steps.{chosen-runnable}
 use Rattle.scheduler.proofs.Soundness.Change.{changed-facts, shareOf}
 
 -- Wake, and everything else that changes one thread and not the list.
@@ -331,7 +332,8 @@ module _ (s : Scheduler) (k : Facts s) (r : ℕ) (is-r : s .running ≡ r) (runs
               (everyOf-snoc (λ j. ltb j 64 && reservedAt at j) r (without r (listed s)) (left-over s r t-new (k .members))
               (both (ltb r 64) (reservedAt at r) (lt→ltb r 64 r-small) (reserved-kept s r t-new inside t-adm r r-res)));
           once =
-              subst (λ (z : List ℕ). T (distinct z)) (sym l) (distinct-snoc r (without r (listed s)) (distinct-without r (listed s) (k .once))
+              subst (λ (z : List ℕ). T (distinct z)) (sym l) (distinct-snoc r (without r (listed s))
+              (distinct-without r (listed s) (k .once))
               (member-self r (listed s)));
           others =
               λ j ne m. subst (λ (z : List ℕ). T (member j z)) (sym l) (member-left j r (without r (listed s))
@@ -346,7 +348,7 @@ module _ (s : Scheduler) (k : Facts s) (r : ℕ) (is-r : s .running ≡ r) (runs
         })
 
     pub report-facts : Facts (reported r reason used s)
-    report-facts = reported-cases Facts r reason used s (λ _. exit-facts) (λ _. rear-facts) (λ _. stay-facts)
+    report-facts = reported-cases Facts r reason used s (λ _. exit-facts) (λ _ _. rear-facts) (λ _ _. stay-facts)
 
 -- Dispatch.
 
@@ -372,7 +374,7 @@ dispatch-facts s k early =
       own-status = k .status 0 (lit< tt);
       room = λ g o. omega (arith, carries s k g o);
       run = λ ne.
-          let c = first-found (runnableAt s) (listed s) ne in
+          let c = chosen-runnable s ne in
           let a = member-admitted s k (chosen s) (c .0) in
           record {
             small = k .small (chosen s) a;
