@@ -172,8 +172,7 @@ group-of s g t o =
     under ne u =
         let u′ = rw (ne-eqb g 0 ne) at u in (
           ltb→lt ((groupAt s g) .parent) g (and-l (ltb ((groupAt s g) .parent) g) (openAt s ((groupAt s g) .parent)) u′),
-          and-r
-              (ltb ((groupAt s g) .parent) g) (openAt s ((groupAt s g) .parent)) u′,
+          and-r (ltb ((groupAt s g) .parent) g) (openAt s ((groupAt s g) .parent)) u′,
         )
 
 flag-of : (s : Scheduler) (g : ℕ) → T (groupOk s g) → (groupAt s g) .opened ≤ 1
@@ -283,8 +282,8 @@ ok-group s g e f = both (leb ((groupAt s g) .opened) 1) _ (le→leb ((groupAt s 
 ok-run : (s : Scheduler) → ((s .running ≡ 64 → ⊥) → RunFacts s) → T (runningOk s)
 unfolding runningOk
 ok-run s f =
-    by (λ b. eqb (s .running) 64 ≡ b → T (b || (ltb (s .running) 64 && admittedAt s (s .running) && runnableAt s (s .running) && ltb
-    (s .meter) 10000000000000))) (eqb (s .running) 64)
+    by (λ b. eqb (s .running) 64 ≡ b → T (b || (ltb (s .running) 64 && admittedAt s (s .running) && runnableAt s (s .running)
+    && ltb (s .meter) 10000000000000))) (eqb (s .running) 64)
     (λ _ _. tt)
     (λ e _. go (f (eqb-false (s .running) 64 e)))
     refl

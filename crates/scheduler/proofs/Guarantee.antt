@@ -102,8 +102,8 @@ weight-one s k x y g own is-g =
     let a = allotments s k (λ n. eqb n y) g sum in
     let b = ahead-sumOf x (mask (λ n. eqb n y) al) l in
     let most : al y ≤ g * s .settings .thousandth = subst (λ (z : ℕ). al y ≤ z * s .settings .thousandth) is-g (below-quantum s k y own) in
-    by (λ d. (eqb r 64 || before r x l) ≡ d → ahead x (mask (λ n. eqb n y) al) l + cond d 0 (cond (eqb r y) (min (al r) p) 0) ≤ g *
-    s .settings .thousandth) (eqb r 64 || before r x l)
+    by (λ d. (eqb r 64 || before r x l) ≡ d → ahead x (mask (λ n. eqb n y) al) l + cond d 0 (cond (eqb r y) (min (al r) p) 0)
+    ≤ g * s .settings .thousandth) (eqb r 64 || before r x l)
     (λ e _. omega arith)
     (λ e _. by (λ d. ahead x (mask (λ n. eqb n y) al) l + cond d (min (al r) p) 0 ≤ g * s .settings .thousandth) (eqb r y)
     (λ q.

@@ -162,8 +162,8 @@ blocked-of s k n a r =
 -- RULE 2.4: the threads before the place that a dispatch counts are blocked, the chosen thread stands at that place, and for idle (64)
 -- the number is the length of the list.
 pub before-blocked : (s : Scheduler) → refusal dispatch s ≡ 0
-    → T (everyOf (blockedAt s) (take ((step dispatch s) .before) (listed s))) ×
-    (getD (listed s) ((step dispatch s) .before) 64 ≡ (step dispatch s) .thread)
+    → T (everyOf (blockedAt s) (take ((step dispatch s) .before) (listed s)))
+    × (getD (listed s) ((step dispatch s) .before) 64 ≡ (step dispatch s) .thread)
 unfolding accept isDispatch chosen passedOver
 before-blocked s e =
     let k = facts s ((passes dispatch s e) .0) in

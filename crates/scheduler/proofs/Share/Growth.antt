@@ -36,8 +36,8 @@ meter-growth (c ∷ cs) s last =
 -- S is the growth of the thread's own ticks, as long as it stays admitted.
 Counts : ℕ → ℕ → List Call → Scheduler → Scheduler → List Event → Type 0
 Counts y last cs s z es =
-    T (admittedAt s y) → T (throughout (keepsAdmitted y) last es) → (threadAt s y) .ticks + ticksIn (λ n. eqb n y) last es ≡
-    (threadAt z y) .ticks
+    T (admittedAt s y) → T (throughout (keepsAdmitted y) last es)
+    → (threadAt s y) .ticks + ticksIn (λ n. eqb n y) last es ≡ (threadAt z y) .ticks
 
 counts-accepted : (y last : ℕ) (c : Call) (cs : List Call) (s : Scheduler) → refusal c s ≡ 0 → Attributed last s
     → ((s : Scheduler) (last : ℕ) → Attributed last s → Counts y last cs s (final s cs) (trace s cs))

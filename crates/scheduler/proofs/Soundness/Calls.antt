@@ -125,8 +125,8 @@ fit-charged s reason used t m1 k = record {
       (λ e _. omega (arith, not-used-up reason used t e))
       refl;
   bounded =
-      elim (renewed reason used t) as (λ b. cond b (t .reservation * s .settings .thousandth) (t .allotment - used) ≤ t .reservation *
-      s .settings .thousandth)
+      elim (renewed reason used t) as (λ b. cond b (t .reservation * s .settings .thousandth) (t .allotment - used)
+      ≤ t .reservation * s .settings .thousandth)
       [ true ↦ le-refl (t .reservation * s .settings .thousandth) | false ↦ omega (arith, k .bounded) ];
 }
 
