@@ -1,4 +1,5 @@
--- The guarantee's hypotheses are met by a concrete stretch: the listing of RULE 10.1 from the state with both threads admitted.
+-- The guarantee's hypotheses are met by a concrete stretch, the listing of RULE 10.1 from the state with both threads admitted: the
+-- definitions compute on it.
 use mathlib.Core.Path.{_≡_, refl}
 use mathlib.Core.List.{List, [], _∷_}
 use lib.ListN.{take, drop}

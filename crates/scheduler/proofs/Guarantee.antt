@@ -10,7 +10,7 @@ use native.Mathlib.Nat.{le-refl, mul-le-mul-left, mul-le-mul-right, min-le-left,
 use lib.Dec.{T, eqb}
 use borrow.Author.Tests.{eqb-true, eqb-false, ne-eqb, eq-eqb}
 use Rattle.base.specs.Lists.{member}
-use Rattle.base.proofs.Bools.{by, and-l, and-r}
+use Rattle.base.proofs.Bools.{by, and-l, and-r, both, or-false-r}
 use Rattle.base.proofs.Lists.{sumOf, ahead, before, mask, ahead-sumOf, sumOf-le, sumOf-split, sumOf-once, ahead-none}
 use Rattle.scheduler.specs.declared.Scheduler.{Scheduler}
 use Rattle.scheduler.specs.State.{reservedAt, reservationAt, allotmentAt, listed, sliceAt}
@@ -47,10 +47,6 @@ throughout-map p q f last (e ∷ es) t =
     (and-l (not (accepted e) || p last (e .call)) (throughout p (named last e) es) t))
     (throughout-map p q f (named last e) es (and-r (not (accepted e) || p last (e .call)) (throughout p (named last e) es) t))
   where
-    both : (a b : Bool) → T a → T b → T (a && b)
-    both true b s t = t
-    both false b s t = s
-
     weaken : (a b c : Bool) → (T b → T c) → T (a || b) → T (a || c)
     weaken true b c f t = tt
     weaken false b c f t = f t
@@ -108,14 +104,10 @@ weight-one s k x y g own is-g =
     (λ e _. by (λ d. ahead x (mask (λ n. eqb n y) al) l + cond d (min (al r) p) 0 ≤ g * s .settings .thousandth) (eqb r y)
     (λ q.
     let z = eqb-true r y q in
-    let none = ahead-none x y al l (subst (λ (j : ℕ). before j x l ≡ false) z (or-false (eqb r 64) (before r x l) e)) in
+    let none = ahead-none x y al l (subst (λ (j : ℕ). before j x l ≡ false) z (or-false-r (eqb r 64) (before r x l) e)) in
     omega (arith, min-le-left (al r) p, ap al z))
     (λ q. omega arith))
     refl
-  where
-    or-false : (a b : Bool) → (a || b) ≡ false → b ≡ false
-    or-false true b e = absurd (subst T e tt)
-    or-false false b e = e
 
 -- the sums of a stretch, put together
 owed-all : (f h m p W O S G d : ℕ) → f + h ≡ 1000 → W ≡ O + S → d ≤ f * m → f * O ≤ f * G + h * d + h * S → f * G ≤ f * (h * m + p)

@@ -6,11 +6,11 @@ use mathlib.Core.Bool.{Bool, true, false, not, _&&_, _||_}
 use native.Mathlib.Omega.{arith}
 use native.Mathlib.Nat.{sub-self, mul-zero}
 use lib.ListN.{length, getD, take}
-use lib.Dec.{T, ltb, leb, eqb, ltb→lt}
+use lib.Dec.{T, T-not, ltb, leb, eqb, ltb→lt}
 use borrow.Author.Tests.{eqb-true, eqb-false, ne-eqb, eq-eqb, lt-leb}
 use lib.IntN.{pos, subℕ}
 use Rattle.base.specs.Lists.{member, without, everyOf}
-use Rattle.base.proofs.Bools.{cases, and-l, isn't, holds, deny}
+use Rattle.base.proofs.Bools.{cases, and-l, isn't, holds}
 use Rattle.base.proofs.Lists.{before, everyOf-at, everyOf-map, passed-before, passed-at, passed-all, first-none, without-snoc}
 use Rattle.base.proofs.Lists.{without-twice, member-take}
 use Rattle.scheduler.specs.declared.Thread.{Thread}
@@ -134,7 +134,7 @@ unfolding accept isDispatch chosen
 idle-only s e idle n a r =
     let k = facts s ((passes dispatch s e) .0) in
     let none = first-none (runnableAt s) (listed s) (below-64 s k) (rw (step-state dispatch s e) at idle) in
-    deny (runnableAt s n) (everyOf-at (λ j. not (runnableAt s j)) (listed s) none n ((k .thread n (admitted-reserved s n a)) .in-list)) r
+    T-not (runnableAt s n) (everyOf-at (λ j. not (runnableAt s j)) (listed s) none n ((k .thread n (admitted-reserved s n a)) .in-list)) r
 
 pub idle-if : (s : Scheduler) → refusal dispatch s ≡ 0 → ((n : ℕ) → T (admittedAt s n) → T (runnableAt s n) → ⊥)
     → (step dispatch s) .thread ≡ 64

@@ -1,4 +1,5 @@
--- What the checks of an accepted call say, call by call; and the three ways a report can end.
+-- What the checks of an accepted call say, call by call: none applies, so each is peeled off in turn. And the three ways a report can
+-- end, by its reason and by whether its thread is renewed.
 use Prim.Native.Nat.{ℕ, _≤_, _<_}
 use mathlib.Core.Path.{_≡_, sym, subst}
 use mathlib.Core.List.{[]}

@@ -1,14 +1,15 @@
--- Opening and closing a group keep a state sound, and so does every accepted call (`preserved`); a start returns a sound state.
+-- Every accepted call keeps a state sound (`preserved`), so every call does (`stays-sound`); a start returns a sound state. Opening and
+-- closing a group go here, by the facts of the state before it with one group replaced; the other calls in Soundness.Calls.
 use Prim.Native.Nat.{ℕ, _+_, _-_, _≤_, _<_}
 use mathlib.Core.Path.{_≡_, refl, sym, ap, subst, _∙_}
 use mathlib.Core.Bool.{Bool, true, false, not, cond, _&&_, and-false}
 use native.Mathlib.Omega.{arith}
 use lib.ListN.{length-set}
 use lib.Seq.{getD-set-same, getD-set-other}
-use lib.Dec.{T, ltb, eqb, lt→ltb}
+use lib.Dec.{T, T-not, ltb, eqb, lt→ltb}
 use borrow.Author.Tests.{eqb-true, eqb-false, ne-eqb, eq-eqb}
 use Rattle.base.specs.Checks.{within}
-use Rattle.base.proofs.Bools.{by, cases, and-r, is, holds, clash, deny}
+use Rattle.base.proofs.Bools.{by, cases, and-r, is, holds, clash}
 use Rattle.base.proofs.Sums.{everyBelow-at, sum-update}
 use Rattle.scheduler.specs.declared.Group.{Group}
 use Rattle.scheduler.specs.declared.Scheduler.{Scheduler}
@@ -225,10 +226,10 @@ close-facts s k n ok =
           by (λ b. eqb g 0 ≡ b → g ≡ 0) (eqb g 0)
           (λ e _. eqb-true g 0 e)
           (λ e _.
-          absurd (deny (childOf s n g) (everyBelow-at (λ i. not (childOf s n i)) 16 (ok .no-child) g l)
+          absurd (T-not (childOf s n g) (everyBelow-at (λ i. not (childOf s n i)) 16 (ok .no-child) g l)
           (child s n g o (eqb-false g 0 e) z)))
           refl;
-      threads = λ i l a z. deny (threadIn s n i) (everyBelow-at (λ i. not (threadIn s n i)) 64 (ok .no-thread) i l) (inside s n i a z);
+      threads = λ i l a z. T-not (threadIn s n i) (everyBelow-at (λ i. not (threadIn s n i)) 64 (ok .no-thread) i l) (inside s n i a z);
       fits-in = λ g o. omega (arith, carries s k g o, none (ltb n 16) (ltb 0 n) (eqb 0 g));
       own-flag = omega arith;
       own = λ u. absurd u;

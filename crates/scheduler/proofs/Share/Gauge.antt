@@ -19,7 +19,7 @@ use Rattle.scheduler.proofs.Facts.{fits}
 unfoldable pub gauge : (ℕ → Bool) → ℕ → (ℕ → ℕ) → List ℕ → ℕ → ℕ → ℕ
 gauge sel x al l r v = ahead x (mask sel al) l + cond (eqb r 64 || before r x l) 0 (cond (sel r) v 0)
 
-cond-zero : (b : Bool) → cond {A = ℕ} b 0 0 ≡ 0
+pub cond-zero : (b : Bool) → cond {A = ℕ} b 0 0 ≡ 0
 cond-zero true = refl
 cond-zero false = refl
 

@@ -1,8 +1,8 @@
 -- What an accepted call leaves as it was: the settings, an admitted thread's reservation, a runnable thread's state; and which thread
--- runs.
+-- runs. By cases on the call: it replaces one entry, and another thread's is read as before.
 use Prim.Native.Nat.{ℕ, _+_, _<_}
 use mathlib.Core.Path.{_≡_, refl, sym, ap, subst, _∙_}
-use mathlib.Core.Bool.{Bool, true, false, not, cond, _||_}
+use mathlib.Core.Bool.{true, false, not, cond, _||_}
 use native.Mathlib.Omega.{arith}
 use lib.ListN.{length}
 use lib.Dec.{T, ltb, eqb}
@@ -18,6 +18,7 @@ use Rattle.scheduler.specs.Effects.{effect}
 use Rattle.scheduler.specs.Rule.{isDispatch}
 use Rattle.scheduler.specs.Stretch.{keeps, ticksOf, keepsRunnable, keepsAdmitted}
 use Rattle.scheduler.proofs.Facts.{facts, in-threads, thread-other, thread-same}
+use Rattle.scheduler.proofs.Share.Gauge.{cond-zero}
 use Rattle.scheduler.proofs.Passed.{passes, admit-passed, report-passed, reported-cases}
 
 pub settings-kept : (c : Call) (s : Scheduler) → (effect c s) .settings ≡ s .settings
@@ -65,10 +66,6 @@ untouched y last c s s′ e none = record {
   counted = omega (arith, ap (λ (t : Thread). t .ticks) e, none);
 }
 
-no-ticks : (b : Bool) → cond {A = ℕ} b 0 0 ≡ 0
-no-ticks true = refl
-no-ticks false = refl
-
 held-woken : (y last : ℕ) (s : Scheduler) → y < length (s .threads) → Held y last (wake y) s (withThread s y (wokenThread s (threadAt s y)))
 unfolding admittedAt reservedAt reservationAt runnableAt wokenThread ticksOf
 held-woken y last s h =
@@ -78,7 +75,7 @@ held-woken y last s h =
       reserved = λ _. subst (λ (t : Thread). T (isReserved t)) (sym e) tt;
       amount = ap (λ (t : Thread). t .reservation) e;
       runnable = λ _ _. subst (λ (t : Thread). T (isRunnable t)) (sym e) tt;
-      counted = omega (arith, ap (λ (t : Thread). t .ticks) e, no-ticks (eqb last y));
+      counted = omega (arith, ap (λ (t : Thread). t .ticks) e, cond-zero (eqb last y));
     }
 
 -- y was charged, with a reason that is no exit
@@ -126,25 +123,25 @@ pub held : (y last : ℕ) (c : Call) (s : Scheduler) → refusal c s ≡ 0 → (
     → T (keepsAdmitted y last c)
     → Held y last c s (effect c s)
 unfolding effect ticksOf keeps withGroup withList withRun join offList
-held y last (openGroup n p c) s e at a k = untouched y last (openGroup n p c) s (effect (openGroup n p c) s) refl (no-ticks (eqb last y))
-held y last (closeGroup n) s e at a k = untouched y last (closeGroup n) s (effect (closeGroup n) s) refl (no-ticks (eqb last y))
+held y last (openGroup n p c) s e at a k = untouched y last (openGroup n p c) s (effect (openGroup n p c) s) refl (cond-zero (eqb last y))
+held y last (closeGroup n) s e at a k = untouched y last (closeGroup n) s (effect (closeGroup n) s) refl (cond-zero (eqb last y))
 held y last (admit n g f) s e at a k =
     let c = admit-passed s n g f ((passes (admit n g f) s e) .1) in
     untouched y last (admit n g f) s (effect (admit n g f) s)
     (thread-other s n (newThread s g f) y (λ z. clash (admittedAt s y) (is (admittedAt s y) a) (ap (admittedAt s) z ∙ c .1)))
-    (no-ticks (eqb last y))
+    (cond-zero (eqb last y))
 held y last (remove n) s e at a k =
     untouched y last (remove n) s (effect (remove n) s) (thread-other s n noThread y (λ z. eqb-false n y (isn't (eqb n y) k) (sym z)))
-    (no-ticks (eqb last y))
+    (cond-zero (eqb last y))
 held y last (wake n) s e at a k =
     by (λ b. eqb y n ≡ b → Held y last (wake n) s (withThread s n (wokenThread s (threadAt s n)))) (eqb y n)
     (λ q _.
     subst (λ (j : ℕ). Held y last (wake j) s (withThread s j (wokenThread s (threadAt s j)))) (eqb-true y n q)
     (held-woken y last s (in-threads s (facts s ((passes (wake n) s e) .0)) y a)))
     (λ q _. untouched y last (wake n) s (effect (wake n) s) (thread-other s n (wokenThread s (threadAt s n)) y (eqb-false y n q))
-    (no-ticks (eqb last y)))
+    (cond-zero (eqb last y)))
     refl
-held y last dispatch s e at a k = untouched y last dispatch s (effect dispatch s) refl (no-ticks (eqb last y))
+held y last dispatch s e at a k = untouched y last dispatch s (effect dispatch s) refl (cond-zero (eqb last y))
 held y last (report reason used) s e at a k =
     let ok = passes (report reason used) s e in
     let is-last = at ((report-passed s reason used (ok .1)) .0) in
