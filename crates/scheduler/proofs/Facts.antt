@@ -3,7 +3,7 @@
 use Prim.Native.Nat.{ℕ, _-_, _*_, _≤_, _<_}
 use mathlib.Core.Path.{_≡_, refl, subst}
 use mathlib.Core.List.{List, [], _∷_, _++_, append-assoc}
-use mathlib.Core.Bool.{Bool, false, not, cond, _&&_, _||_}
+use mathlib.Core.Bool.{Bool, true, false, not, cond, _&&_, _||_}
 use native.Mathlib.Omega.{arith}
 use native.Mathlib.Numerals.{add-one}
 use lib.ListN.{length, length-append, length-drop, take, drop, List·getD-eq-default}
@@ -100,6 +100,23 @@ admitted-small s e n t =
     (omega (arith, ltb-false n 64 q, e))) t))
     refl
 
+-- a reserved thread that is off the list fails its test
+off-fails : (s : Scheduler) (n : ℕ) → T (reservedAt s n) → member n (listed s) ≡ false → threadOk s n ≡ false
+unfolding threadOk
+off-fails s n r e =
+    rw (is (reservedAt s n) r, e) (fails (leb ((threadAt s n) .status) 2) (not (admittedAt s n) || accountOk (s .meter) (threadAt s n)))
+  where
+    fails : (v p : Bool) → (v && false && p) ≡ false
+    fails true p = refl
+    fails false p = refl
+
+on-list : (s : Scheduler) (n : ℕ) → T (threadOk s n) → T (reservedAt s n) → T (member n (listed s))
+on-list s n t r =
+    by (λ b. member n (listed s) ≡ b → T b) (member n (listed s))
+    (λ _ _. tt)
+    (λ e _. clash (threadOk s n) (is (threadOk s n) t) (off-fails s n r e))
+    refl
+
 -- a thread's test: its status, what is asked of a reserved thread, what of an admitted one
 abbrev placed : Scheduler → ℕ → Bool
 placed s n = member n (listed s) && quotaOk (s .settings .thousandth) (threadAt s n) && openAt s ((threadAt s n) .group)
@@ -131,13 +148,14 @@ ok-entry s n k =
     (both v h (k .status) (implies (reservedAt s n) (placed s n) (k .held)))
     (implies (admittedAt s n) (accountOk (s .meter) (threadAt s n)) (k .paid))
 
-thread-of : (s : Scheduler) (n : ℕ) → n < 64 → T (placed s n) → ThreadFacts s n
+thread-of : (s : Scheduler) (n : ℕ) → n < 64 → T (threadOk s n) → T (reservedAt s n) → ThreadFacts s n
 unfolding within
-thread-of s n small t =
+thread-of s n small t r =
     let th = threadAt s n in
+    let u = (entry-of s n t) .held r in
     record {
       small = small;
-      in-list = search (and-l, and-r) depth 12;
+      in-list = on-list s n t r;
       in-group = search (and-l, and-r) depth 12;
       fit = record {
         positive = leb→le 1 (th .reservation) (search (and-l, and-r) depth 12);
@@ -234,7 +252,7 @@ facts s t =
       account = λ n a. account-of (s .meter) (threadAt s n) ((entry n (admitted-small s ts n a)) .paid a);
       thread = λ n r.
           let l = admitted-small s ts n (reserved-admitted s n r) in
-          thread-of s n l ((entry n l) .held r);
+          thread-of s n l (everyBelow-at (threadOk s) 64 (k .threads) n l) r;
       count64 = leb→le (s .count) 64 (search (and-l, and-r));
       members = search (and-l, and-r);
       once = search (and-l, and-r);
