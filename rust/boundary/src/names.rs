@@ -187,12 +187,12 @@ pub const FAMILIES: [Family; 10] = [
             ),
             one(
                 "LOWEST_PRIORITY",
-                constant(PRIORITY, "LOWEST"),
+                constant(PRIORITY, "LEAST"),
                 "The lowest priority.",
             ),
             one(
                 "HIGHEST_PRIORITY",
-                constant(PRIORITY, "HIGHEST"),
+                constant(PRIORITY, "MOST"),
                 "The highest priority.",
             ),
         ],
