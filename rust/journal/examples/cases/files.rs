@@ -10,9 +10,10 @@ use journal::names::Names;
 use journal::playback::Journal;
 use journal::progress::Progress;
 use journal::text;
+use journal::track::{Mark, View};
 
 use crate::broken::RefillOnWake;
-use crate::controller::{play, Server, LENGTH, NAMES, RESERVATIONS};
+use crate::controller::{play, Server, EXPORTER, LENGTH, NAMES, RESERVATIONS};
 
 /// A shipped journal.
 #[derive(Clone, Copy, Debug)]
@@ -42,7 +43,18 @@ pub const BROKEN: &str = "The same exporter by a broken rule: every wake fills t
 /// A worked example of 15 records.
 pub const LISTING: &str = include_str!("../listing.txt");
 
-fn picture<E: Engine>(journal: &[u8], title: &str) -> String {
+/// The part of the exporter's journal that a page looks into.
+const ZOOM: &str = "The exporter's longest wait";
+
+fn zoom() -> View {
+    View {
+        from: Some(Mark::Record(150)),
+        to: Some(Mark::Record(190)),
+        threads: vec![0, EXPORTER as u8],
+    }
+}
+
+fn picture<E: Engine>(journal: &[u8], title: &str, view: View) -> String {
     let mut names = Names::default();
     for (n, name) in (0u8..).zip(NAMES) {
         names.give(n, name);
@@ -50,7 +62,7 @@ fn picture<E: Engine>(journal: &[u8], title: &str) -> String {
     let options = Options {
         title: Some(title.into()),
         names,
-        ..Options::default()
+        view,
     };
     let whole = Journal::whole(journal);
     match draw::<E>(whole, &options, &mut Progress::silent()) {
@@ -63,7 +75,7 @@ fn picture<E: Engine>(journal: &[u8], title: &str) -> String {
 /// The exporter beside readout by the broken rule, run and drawn by it.
 pub fn broken_picture() -> String {
     let journal = play::<RefillOnWake>(Server::Jittery, LENGTH).journal();
-    picture::<RefillOnWake>(&journal, BROKEN)
+    picture::<RefillOnWake>(&journal, BROKEN, View::default())
 }
 
 fn names() -> String {
@@ -99,9 +111,13 @@ pub fn files() -> Vec<(PathBuf, Vec<u8>)> {
         let _ = text::decode(whole, &mut lines, &mut Progress::silent());
 
         let name = case.name;
-        let svg = picture::<Proved>(&journal, case.title);
+        let svg = picture::<Proved>(&journal, case.title, View::default());
         files.push((here.join(format!("examples/{name}.txt")), lines));
         files.push((root.join(format!("docs/{name}.svg")), svg.into()));
+        if case.server == Server::Jittery {
+            let svg = picture::<Proved>(&journal, ZOOM, zoom());
+            files.push((root.join("docs/zoom.svg"), svg.into()));
+        }
         files.push((journals.join(format!("{name}.blocks")), journal));
     }
     files

@@ -11,7 +11,7 @@ const VIEW: &str =
     "  --from X, --to Y    only the part from X to Y, each a record's number, as 310,
                       or a processor time since the journal's beginning with
                       its unit, as 120ms, 1.5s or 2min (us, ms, s, min, h)
-  --thread N          only thread N; may be given for several
+  --thread N          only thread N, with all refusals; may be given for several
   --names FILE        names of threads: a number and its name a line; '#' begins
                       a comment
   --name N=NAME       a name for thread N; may be given for each

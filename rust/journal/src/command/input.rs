@@ -6,7 +6,7 @@ use std::path::Path;
 
 use journal::progress::Progress;
 
-use super::{told, Stop};
+use super::{standard, told, Stop};
 
 /// The input as messages name it.
 pub fn name(path: Option<&Path>) -> String {
@@ -21,6 +21,7 @@ pub fn read(path: Option<&Path>, progress: &mut Progress) -> Result<Vec<u8>, Sto
     let failed = |e: io::Error| Stop::bad(format!("{}: {}", name(path), told(&e)));
     progress.doing("reading");
     match path {
+        None if standard::input_closed() => Err(Stop::bad("standard input: it is closed".into())),
         None => fill(io::stdin().lock(), None, progress).map_err(failed),
         Some(path) => {
             let file = File::open(path).map_err(failed)?;

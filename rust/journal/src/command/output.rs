@@ -30,7 +30,7 @@ pub struct Part {
 impl Output {
     pub fn open(path: Option<&Path>) -> Result<Output, Stop> {
         let Some(path) = path else {
-            if standard::closed() {
+            if standard::output_closed() {
                 return Err(Stop::bad("standard output: it is closed".into()));
             }
             let out = BufWriter::with_capacity(HELD, io::stdout());

@@ -1,16 +1,23 @@
-//! Whether standard output was closed when the program began.
+//! Whether standard input and output were closed when the program began.
 //!
 //! The runtime opens `/dev/null` in the place of a closed standard stream
-//! before `main`, and what is written there is lost without an error. So the
-//! stream is looked at earlier, by a function that the loader calls.
+//! before `main`: what is written there is lost without an error, and what is
+//! read is nothing. So the streams are looked at earlier, by a function that
+//! the loader calls.
 
 use std::sync::atomic::{AtomicBool, Ordering};
 
-static CLOSED: AtomicBool = AtomicBool::new(false);
+static INPUT: AtomicBool = AtomicBool::new(false);
+static OUTPUT: AtomicBool = AtomicBool::new(false);
+
+/// Standard input was closed from the beginning.
+pub fn input_closed() -> bool {
+    INPUT.load(Ordering::Relaxed)
+}
 
 /// Standard output was closed from the beginning.
-pub fn closed() -> bool {
-    CLOSED.load(Ordering::Relaxed)
+pub fn output_closed() -> bool {
+    OUTPUT.load(Ordering::Relaxed)
 }
 
 #[cfg(target_os = "linux")]
@@ -19,8 +26,9 @@ extern "C" fn look() {
 
     let streams = Path::new("/proc/self/fd");
     let there = |path: &Path| path.symlink_metadata().is_ok();
-    if there(streams) && !there(&streams.join("1")) {
-        CLOSED.store(true, Ordering::Relaxed);
+    if there(streams) {
+        INPUT.store(!there(&streams.join("0")), Ordering::Relaxed);
+        OUTPUT.store(!there(&streams.join("1")), Ordering::Relaxed);
     }
 }
 

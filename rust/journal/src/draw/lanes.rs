@@ -9,7 +9,7 @@ use crate::words;
 use super::exact::{Cross, Exact};
 use super::layout::{Heading, Lane, INDENT, MARGIN, REFUSALS, RIGHT, WIDTH};
 use super::picture::{cross, Picture};
-use super::svg::{escape, fit, width, Anchor, C};
+use super::svg::{bold, escape, fit, width, Anchor, C};
 use super::thin::{self, Thin};
 
 /// Up to so many starts each has a line down through the lanes.
@@ -223,7 +223,7 @@ impl Picture<'_> {
         let x = RIGHT + 14.0;
         self.svg.titled(x, y, "name", &share, &title);
         if !word.is_empty() {
-            let x = x + 46.0;
+            let x = x + bold(&share, 12.0) + 4.0;
             self.svg.text(x, y, Anchor::Start, "small", word);
         }
     }

@@ -8,7 +8,7 @@ use super::svg::bold;
 
 /// Width of the picture, and where its plots end.
 pub const WIDTH: f64 = 1120.0;
-pub const RIGHT: f64 = 1030.0;
+pub const RIGHT: f64 = 1010.0;
 /// Where the plots begin, at the least and at the most, by the names' length.
 const LEFT: (f64, f64) = (170.0, 330.0);
 /// Where labels begin, and what a lane's reservation takes beside its name.

@@ -40,29 +40,33 @@ impl std::fmt::Display for C {
     }
 }
 
-/// Rough width of a text in a sans-serif font, in parts of its size.
+/// Width of a character in parts of its size, by the widest font of the style.
 fn ems(c: char) -> f64 {
     match c {
-        'i' | 'j' | 'l' | 'I' | '.' | ',' | ':' | ';' | '\'' | '|' | '!' => 0.29,
-        't' | 'f' | 'r' | '(' | ')' | '[' | ']' | '-' | ' ' | '/' | '\u{b7}' => 0.36,
-        'w' | '\u{2026}' => 0.78,
-        'm' | 'M' | 'W' | '%' | '@' | '\u{2030}' => 1.0,
+        'i' | 'j' | 'l' | 'I' | '.' | ',' | ':' | ';' | '\'' | '|' | '!' => 0.31,
+        't' | 'f' | 'r' | '(' | ')' | '[' | ']' | '-' | ' ' | '/' | '\u{b7}' => 0.4,
+        'w' => 0.82,
+        'm' | 'M' | 'W' | '%' | '@' | '\u{2026}' => 1.0,
+        '\u{2030}' => 1.35,
         'A'..='Z' => 0.7,
-        ' '..='~' => 0.57,
+        ' '..='~' => 0.62,
         '\u{1f000}'.. => 1.4,
         '\u{1100}'.. => 1.05,
-        _ => 0.62,
+        _ => 0.64,
     }
 }
 
-/// Rough width of a text in a sans-serif font.
+/// Rough width of a text, by the widest font of the style.
 pub fn width(text: &str, size: f64) -> f64 {
     text.chars().map(ems).sum::<f64>() * size
 }
 
+/// Bold text is wider by so much.
+const BOLD: f64 = 1.13;
+
 /// Rough width of a text in bold.
 pub fn bold(text: &str, size: f64) -> f64 {
-    1.07 * width(text, size)
+    BOLD * width(text, size)
 }
 
 /// The text, or as much of its beginning as has room, with a mark.
@@ -73,7 +77,7 @@ pub fn fit(text: &str, size: f64, room: f64) -> String {
     let mut out = String::new();
     let mut end = bold("\u{2026}", size);
     for c in text.chars() {
-        end += 1.07 * size * ems(c);
+        end += BOLD * size * ems(c);
         if end > room {
             break;
         }

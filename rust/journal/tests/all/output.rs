@@ -44,8 +44,19 @@ fn a_full_disk_is_an_error() {
             "journal: /dev/full: No space left on device\n"
         );
     }
-    let output = shell("$JOURNAL --help > /dev/full");
-    assert_eq!(code(&output), 1);
+    for out in ["> /dev/full", ">&-"] {
+        assert_eq!(code(&shell(&format!("$JOURNAL --help {out}"))), 1);
+    }
+}
+
+#[test]
+fn closed_standard_input_is_an_error() {
+    for command in ["encode", "decode", "run", "draw", "stats"] {
+        let output = shell(&format!("$JOURNAL {command} <&- | cat; true"));
+        assert_eq!(output.stdout.len(), 0);
+        assert_eq!(errors(&output), "journal: standard input: it is closed\n");
+        assert_eq!(code(&shell(&format!("$JOURNAL {command} <&-"))), 1);
+    }
 }
 
 #[test]

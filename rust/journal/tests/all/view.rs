@@ -3,10 +3,12 @@
 use journal::codec::{answer, kind, reason, Record};
 use journal::draw::{draw, Options};
 use journal::engine::{Engine, Proved};
+use journal::names::Names;
 use journal::playback::Journal;
 use journal::progress::Progress;
 use journal::stats::stats;
 use journal::track::{Mark, View};
+use model::random::{journal, Rng};
 
 use crate::draw::{check, drawn};
 use crate::files::LISTING;
@@ -165,6 +167,92 @@ fn gaps_are_in_the_part_or_not() {
     }
 }
 
+/// Ticks of each thread, and the time in all.
+fn ticks(journal: &[u8], view: &View) -> Option<Vec<u64>> {
+    let quiet = &mut Progress::silent();
+    let figures = stats::<Proved>(Journal::whole(journal), view, quiet).ok()?;
+    let mut out = vec![0; 65];
+    for row in figures.csv(&Names::default()).lines().skip(1) {
+        let fields: Vec<u64> = row
+            .split(',')
+            .take(7)
+            .map(|n| n.parse().unwrap_or(0))
+            .collect();
+        out[fields[0] as usize] = fields[6];
+        out[64] += fields[6];
+    }
+    Some(out)
+}
+
+#[test]
+fn parts_of_random_journals_add_up() {
+    let mut r = Rng::new(51);
+    let mut cut = 0;
+    for _ in 0..300 {
+        let journal = journal(&mut r);
+        let whole = ticks(&journal, &View::default()).unwrap();
+        let end = whole[64];
+        if end < 2 {
+            continue;
+        }
+        cut += 1;
+        let at = Mark::Time(r.range(1, end - 1));
+        let before = View {
+            to: Some(at),
+            ..View::default()
+        };
+        let after = View {
+            from: Some(at),
+            ..View::default()
+        };
+        let parts = [before, after].map(|view| ticks(&journal, &view).unwrap());
+        let sum: Vec<u64> = parts[0].iter().zip(&parts[1]).map(|(a, b)| a + b).collect();
+        assert_eq!(sum, whole);
+    }
+    assert!(cut > 150, "{cut}");
+}
+
+#[test]
+fn any_part_of_a_random_journal_is_drawn_or_told() {
+    let mut r = Rng::new(52);
+    let (mut drawings, mut told) = (0, 0);
+    for _ in 0..600 {
+        let bytes = journal(&mut r);
+        let mut mark = || match r.below(5) {
+            0 => None,
+            1 | 2 => Some(Mark::Record(r.below(120))),
+            _ => Some(Mark::Time(r.below(100_000))),
+        };
+        let view = View {
+            from: mark(),
+            to: mark(),
+            threads: Vec::new(),
+        };
+        let options = Options {
+            view,
+            ..Options::default()
+        };
+        let journal = Journal {
+            bytes: &bytes,
+            first: r.below(2),
+        };
+        match draw::<Proved>(journal, &options, &mut Progress::silent()) {
+            Ok(drawing) => {
+                check(&drawing.svg);
+                drawings += 1;
+            }
+            Err(message) => {
+                assert!(
+                    message.contains("--from") || message.contains("--to"),
+                    "{message}"
+                );
+                told += 1;
+            }
+        }
+    }
+    assert!(drawings > 150 && told > 150, "{drawings} {told}");
+}
+
 /// Sixteen minutes in which two threads share the core evenly, but for one
 /// place where the second is blocked for a third of a second; and the record
 /// that it blocks with.
@@ -227,7 +315,7 @@ fn the_one_outlier_of_sixteen_minutes_is_found_and_looked_into() {
     // The figures name the record that thread 0's longest run begins with.
     let quiet = &mut Progress::silent();
     let figures = stats::<Proved>(Journal::whole(&journal), &View::default(), quiet).unwrap();
-    let csv = figures.csv(&Default::default());
+    let csv = figures.csv(&Names::default());
     let (head, rows) = csv.split_once('\n').unwrap();
     let at = |name: &str| head.split(',').position(|n| n == name).expect(name);
     let row: Vec<&str> = rows.lines().next().unwrap().split(',').collect();

@@ -16,13 +16,12 @@ use Rattle.scheduler.proofs.groups.close_code.Tie as tie
 ok : (c : tie.Else1) (s : Scheduler) → c .before .args .ok ≡ sound s → sound s ≡ true
 ok c s w = sym w ∙ not-false (c .before .args .ok) (c .if1 .left)
 
-opened : (c : tie.Else3) (s : Scheduler) → s .groups ≡ c .before .before .before .before .args .groups
-    → openAt s (c .before .before .before .before .args .number) ≡ true
-opened c s g = sym (c .before .is-open .ensures s g) ∙ not-false (c .before .is-open .result) (c .if3 .left)
-
--- the place that the needs look back to
+-- the place that the needs and `opened` look back to
 abbrev start : tie.Else3 → tie.Start
 start p = p .before .before .before .before
+
+opened : (c : tie.Else3) (s : Scheduler) → s .groups ≡ (start c) .args .groups → openAt s ((start c) .args .number) ≡ true
+opened c s g = sym (c .before .is-open .ensures s g) ∙ not-false (c .before .is-open .result) (c .if3 .left)
 
 returns : tie.Need-returns
 returns c = λ s w g l. close-unsound s (c .before .args .number) (sym w ∙ not-true (c .before .args .ok) (c .if1 .taken))

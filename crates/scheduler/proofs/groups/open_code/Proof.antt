@@ -16,13 +16,12 @@ use Rattle.scheduler.proofs.groups.open_code.Tie as tie
 ok : (c : tie.Else1) (s : Scheduler) → c .before .args .ok ≡ sound s → sound s ≡ true
 ok c s w = sym w ∙ not-false (c .before .args .ok) (c .if1 .left)
 
-parent : (c : tie.Else2) (s : Scheduler) → s .groups ≡ c .before .before .before .args .groups
-    → openAt s (c .before .before .before .args .parent) ≡ true
-parent c s g = sym (c .before .is-open .ensures s g) ∙ not-false (c .before .is-open .result) (c .if2 .left)
-
--- the place that the needs look back to
+-- the place that the needs and `parent` look back to
 abbrev start : tie.Else2 → tie.Start
 start p = p .before .before .before
+
+parent : (c : tie.Else2) (s : Scheduler) → s .groups ≡ (start c) .args .groups → openAt s ((start c) .args .parent) ≡ true
+parent c s g = sym (c .before .is-open .ensures s g) ∙ not-false (c .before .is-open .result) (c .if2 .left)
 
 returns : tie.Need-returns
 returns c = λ s w g l.
