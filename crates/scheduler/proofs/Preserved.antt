@@ -15,8 +15,7 @@ use Rattle.scheduler.specs.declared.Group.{Group}
 use Rattle.scheduler.specs.declared.Scheduler.{Scheduler}
 use Rattle.scheduler.specs.State.{noGroup, threadAt, groupAt, admittedAt, reservedAt, runnableAt, reservationAt, openAt, listed}
 use Rattle.scheduler.specs.State.{sliceAt, withGroup, isOpen}
-use Rattle.scheduler.specs.Sound.{settingsOk, load, threadIn, childOf, reservedIn, ceilingsIn}
-use Rattle.scheduler.specs.Sound.{shapeOk, sound}
+use Rattle.scheduler.specs.Sound.{settingsOk, load, threadIn, childOf, reservedIn, ceilingsIn, shapeOk, sound}
 use Rattle.scheduler.specs.Refusals.{Call, openGroup, closeGroup, admit, remove, wake, dispatch, report, free, refusal, startRefusal}
 use Rattle.scheduler.specs.Effects.{effect, started, unstarted}
 use Rattle.scheduler.specs.Rule.{accept, refuse, step, startReply}
