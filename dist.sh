@@ -78,6 +78,7 @@ package='/^\[/ { tests = /dev-dependencies/ || /^\[\[(test|example|bench)\]\]/ }
         cp "$archive" "$new/lib/libmtr.a" &&
         cp target/bin/mtrrun target/cargo/release/journal "$new/bin/" &&
         cp include/mtr.h "$new/include/mtr.h" &&
+        cp docs/RULE.md "$new/RULE.md" &&
         cp -R rust/mtr/build.rs rust/mtr/src "$new/rust/" &&
         awk "$package" rust/mtr/Cargo.toml >"$new/rust/Cargo.toml" &&
         cp -R examples/host/c "$new/examples/host/" &&
@@ -153,7 +154,8 @@ Commit $revision, $kit.
     rust/            the crate \`mtr\`: the same with Rust types (no_std), and the declarations in its module raw
     bin/mtrrun       replays a journal; bin/journal: journals as text, figures and pictures
     examples/host/   a controller's main loop, in C and in Rust
-    PROVED.md        what was proved, by which theorem, and what is assumed
+    RULE.md          the rule whole, in numbered sections
+    PROVED.md        what was proved of it, by which theorem, and what is assumed
 
 C, with this folder as vendor/mtr:
 
