@@ -34,6 +34,8 @@ fi
 cd "$root" || fail "can't enter $root"
 
 if [ "$build" = yes ]; then
+    CARGO_TARGET_DIR=$root/target/cargo
+    export CARGO_TARGET_DIR
     rt staticlib abi || fail "rt staticlib abi failed"
     rt check mtrrun || fail "rt check mtrrun failed"
     cargo run --quiet --offline --release -p boundary -- --check || fail "the header or the Rust declarations are out of date"
