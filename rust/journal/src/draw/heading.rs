@@ -18,7 +18,7 @@ text{font-family:'Helvetica Neue',Helvetica,Arial,'Liberation Sans','DejaVu Sans
 .code{font-size:10px;fill:#a23f00}
 .number{font-weight:bold;fill:#a23f00}
 .flag{font-size:11px;fill:#8a3a6a}
-.paper{fill:#ffffff}
+.back{fill:#ffffff}
 .grid{stroke:#e4e7eb;stroke-width:1;fill:none}
 .axis{stroke:#8c959f;stroke-width:1;fill:none}
 .group{stroke:#8c959f;stroke-width:1.5;fill:none}
@@ -218,7 +218,7 @@ impl Picture<'_> {
         self.svg.put(format_args!(
             "<defs><pattern id=\"damage\" width=\"7\" height=\"7\" patternUnits=\"userSpaceOnUse\" patternTransform=\"rotate(45)\"><rect width=\"7\" height=\"7\" fill=\"#fbf1f7\"/><path class=\"damage\" d=\"M1 0V7\"/></pattern></defs>"
         ));
-        self.svg.rect("paper", 0.0, 0.0, total, height);
+        self.svg.rect("back", 0.0, 0.0, total, height);
         let mut y = 32.0;
         for line in &self.head.title {
             self.svg.text(16.0, y, Anchor::Start, "title", line);
