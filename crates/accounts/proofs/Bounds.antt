@@ -9,7 +9,7 @@ use Rattle.base.specs.Lists.{everyBelow}
 use Rattle.base.proofs.Bools.{and-l, and-r, holds, implied}
 use Rattle.base.proofs.Sums.{everyBelow-at}
 use Rattle.scheduler.specs.declared.Scheduler.{Scheduler}
-use Rattle.scheduler.specs.State.{threadAt, admittedAt, reservationAt}
+use Rattle.scheduler.specs.State.{threadAt, admittedAt, reservationAt, meterMost}
 use Rattle.scheduler.specs.Sound.{sound, shapeOk, threadOk, listOk}
 use Rattle.accounts.specs.Inner.{Bounded}
 
@@ -26,7 +26,7 @@ pub shape-ok : (s : Scheduler) → T (sound s) → T (shapeOk s)
 unfolding sound
 shape-ok s t = search (and-l, and-r) depth 10
 
-meter-ok : (s : Scheduler) → T (sound s) → T (leb (s .meter) 10000001000000)
+meter-ok : (s : Scheduler) → T (sound s) → T (leb (s .meter) meterMost)
 unfolding sound
 meter-ok s t = search (and-l, and-r) depth 10
 

@@ -14,7 +14,7 @@ use Rattle.base.proofs.Bools.{by, cases, and-r, is, holds, clash, deny, or-fals
 use Rattle.base.proofs.Sums.{everyBelow-at, sum-update}
 use Rattle.scheduler.specs.declared.Group.{Group}
 use Rattle.scheduler.specs.declared.Scheduler.{Scheduler}
-use Rattle.scheduler.specs.State.{noGroup, threadAt, groupAt, admittedAt, blockedAt, runnableAt, reservationAt, openAt, listed, sliceAt, withGroup, isOpen}
+use Rattle.scheduler.specs.State.{noGroup, threadAt, groupAt, admittedAt, blockedAt, runnableAt, reservationAt, openAt, listed, sliceAt, withGroup, isOpen, sliceMost}
 use Rattle.scheduler.specs.Sound.{settingsOk, load, threadIn, childOf, reservedIn, ceilingsIn, groupOk, groupsOk, threadOk, listOk, runningOk, shapeOk, sound}
 use Rattle.scheduler.specs.Refusals.{Call, openGroup, closeGroup, admit, remove, wake, dispatch, report, free, refusal, startRefusal}
 use Rattle.scheduler.specs.Effects.{effect, started, unstarted}
@@ -269,9 +269,9 @@ stays-sound c s t =
 -- Start.
 
 -- everything but the settings is computed
-pub started-sound : (m p : ℕ) → T (within 1 1000 m) → T (within 1 1000000 p) → T (sound (started m p))
+pub started-sound : (m p : ℕ) → T (within 1 1000 m) → T (within 1 sliceMost p) → T (sound (started m p))
 unfolding sound shapeOk settingsOk groupsOk groupOk threadOk listOk runningOk load reservedIn ceilingsIn threadIn childOf everyBelow everyOf distinct sumBelow openAt admittedAt listed started within
-started-sound m p a b = rw (is (within 1 1000 m) a, is (within 1 1000000 p) b) tt
+started-sound m p a b = rw (is (within 1 1000 m) a, is (within 1 sliceMost p) b) tt
 
 -- An accepted start returns a sound state; a refused one a state that is not.
 pub start-sound : (m p : ℕ) → startRefusal m p ≡ 0 → T (sound ((startReply m p) .state))

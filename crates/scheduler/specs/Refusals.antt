@@ -7,7 +7,7 @@ use lib.Dec.{ltb, leb, eqb}
 use Rattle.base.specs.Checks.{within, Check, _⇒_, firstOf}
 use Rattle.base.specs.Lists.{everyBelow}
 use Rattle.scheduler.specs.declared.Scheduler.{Scheduler}
-use Rattle.scheduler.specs.State.{groupAt, admittedAt, blockedAt, openAt, sliceAt}
+use Rattle.scheduler.specs.State.{groupAt, admittedAt, blockedAt, openAt, sliceAt, meterLimit, sliceMost}
 use Rattle.scheduler.specs.Sound.{threadIn, childOf, load, sound}
 
 -- The seven calls of a stretch. Start makes a state of its own.
@@ -46,7 +46,7 @@ checks (admit n g f) s =
     ∷ []
 checks (remove n) s = (ltb 63 n || not (admittedAt s n) ⇒ 7) ∷ (eqb (s .running) n ⇒ 9) ∷ []
 checks (wake n) s = (ltb 63 n || not (admittedAt s n) ⇒ 7) ∷ (not (blockedAt s n) ⇒ 10) ∷ []
-checks dispatch s = (not (eqb (s .running) 64) ⇒ 12) ∷ (leb 10000000000000 (s .meter) ⇒ 15) ∷ []
+checks dispatch s = (not (eqb (s .running) 64) ⇒ 12) ∷ (leb meterLimit (s .meter) ⇒ 15) ∷ []
 checks (report reason used) s =
     (eqb (s .running) 64 ⇒ 11)
     ∷ (ltb 3 reason ⇒ 14)
@@ -59,4 +59,4 @@ refusal c s = firstOf ((not (sound s) ⇒ 16) ∷ checks c s)
 
 -- start: 1, m or P outside its range
 unfoldable pub startRefusal : ℕ → ℕ → ℕ
-startRefusal m p = firstOf ((not (within 1 1000 m) || not (within 1 1000000 p) ⇒ 1) ∷ [])
+startRefusal m p = firstOf ((not (within 1 1000 m) || not (within 1 sliceMost p) ⇒ 1) ∷ [])

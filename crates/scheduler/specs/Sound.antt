@@ -10,11 +10,11 @@ use Rattle.base.specs.Checks.{within}
 use Rattle.base.specs.Lists.{member, distinct, everyOf, everyBelow, sumBelow}
 use Rattle.scheduler.specs.declared.Settings.{Settings}
 use Rattle.scheduler.specs.declared.Scheduler.{Scheduler}
-use Rattle.scheduler.specs.State.{threadAt, groupAt, admittedAt, runnableAt, reservedAt, reservationAt, allotmentAt, openAt, quantum, listed}
+use Rattle.scheduler.specs.State.{threadAt, groupAt, admittedAt, runnableAt, reservedAt, reservationAt, allotmentAt, openAt, quantum, listed, meterLimit, meterMost, sliceMost}
 
 -- "m, .. 1 to 1000", "P, .. 1 to 1,000,000 ticks"
 unfoldable pub settingsOk : Settings → Bool
-settingsOk k = within 1 1000 (k .thousandth) && within 1 1000000 (k .interval)
+settingsOk k = within 1 1000 (k .thousandth) && within 1 sliceMost (k .interval)
 
 -- thread n counts in group g; group c is a child of group g
 unfoldable pub threadIn : Scheduler → ℕ → ℕ → Bool
@@ -69,7 +69,7 @@ listOk s = leb (s .count) 64 && everyOf (λ n. ltb n 64 && reservedAt s n) (list
 unfoldable pub runningOk : Scheduler → Bool
 runningOk s =
     eqb (s .running) 64
-    || (ltb (s .running) 64 && admittedAt s (s .running) && runnableAt s (s .running) && ltb (s .meter) 10000000000000)
+    || (ltb (s .running) 64 && admittedAt s (s .running) && runnableAt s (s .running) && ltb (s .meter) meterLimit)
 
 -- the lengths of the tables, which every state in memory has
 unfoldable pub shapeOk : Scheduler → Bool
@@ -84,4 +84,4 @@ sound s =
     && everyBelow (threadOk s) 64
     && listOk s
     && runningOk s
-    && leb (s .meter) 10000001000000
+    && leb (s .meter) meterMost

@@ -56,7 +56,7 @@ pub const REFUSED: &str = "REFUSED_";
 
 const SCHEDULER: &str = "crates/scheduler/src/lib.rt";
 const RUN: &str = "crates/scheduler/src/threads.rt";
-const PRIORITY: &str = "crates/scheduler/src/priority.rt";
+const PRIORITY: &str = "crates/priority/src/lib.rt";
 const REPLAY: &str = "crates/replay/src/lib.rt";
 /// Where the version stands.
 pub const VERSION: &str = "crates/abi/src/version.rt";

@@ -14,7 +14,7 @@ use Rattle.base.proofs.Bools.{by, and-l, and-r, both, is, or-false-r}
 use Rattle.base.proofs.Lists.{member-without, everyOf-at, everyOf-without, distinct-without, member-self, everyOf-map, everyOf-snoc, member-left, member-last, distinct-snoc, first-found}
 use Rattle.scheduler.specs.declared.Thread.{Thread}
 use Rattle.scheduler.specs.declared.Scheduler.{Scheduler}
-use Rattle.scheduler.specs.State.{noThread, threadAt, groupAt, admittedAt, blockedAt, runnableAt, allotmentAt, openAt, listed, sliceAt, withThread, withList, withRun, isAdmitted, isRunnable}
+use Rattle.scheduler.specs.State.{noThread, threadAt, groupAt, admittedAt, blockedAt, runnableAt, allotmentAt, openAt, listed, sliceAt, withThread, withList, withRun, isAdmitted, isRunnable, meterLimit, meterMost}
 use Rattle.scheduler.specs.Sound.{load}
 use Rattle.scheduler.specs.Refusals.{admit, remove, wake, dispatch, free}
 use Rattle.scheduler.specs.Effects.{rear, toRear, offList, join, newThread, wokenThread, renewed, chargedThread, charged, exited, reported, chosen, effect}
@@ -183,7 +183,7 @@ module _ (s : Scheduler) (k : Facts s) (r : ℕ) (is-r : s .running ≡ r) (runs
   r-facts : ThreadFacts s r
   r-facts = k .thread r r-adm
 
-  late : s .meter + used ≤ 10000001000000
+  late : s .meter + used ≤ meterMost
   unfolding sliceAt
   late = omega (arith, runner .early, fit, min-le-right (allotmentAt s r) (s .settings .interval), (settings-facts (s .settings) (k .settings)) .3)
 
@@ -292,7 +292,7 @@ module _ (s : Scheduler) (k : Facts s) (r : ℕ) (is-r : s .running ≡ r) (runs
 
 -- Dispatch.
 
-pub dispatch-facts : (s : Scheduler) → Facts s → s .meter < 10000000000000 → Facts (effect dispatch s)
+pub dispatch-facts : (s : Scheduler) → Facts s → s .meter < meterLimit → Facts (effect dispatch s)
 unfolding effect withRun listed admittedAt runnableAt blockedAt chosen
 dispatch-facts s k early =
     let t = threadAt s 0 in

@@ -18,7 +18,7 @@ use Rattle.scheduler.specs.declared.Scheduler.{Scheduler}
 use Rattle.scheduler.specs.declared.Answer.{Answer}
 use Rattle.scheduler.specs.declared.Answer.the-variants.{Refused, Idle, Run}
 use Rattle.scheduler.specs.declared.Answered.{Answered}
-use Rattle.scheduler.specs.State.{threadAt, runnableAt, reservedAt, allotmentAt, sliceAt, listed, withRun}
+use Rattle.scheduler.specs.State.{threadAt, runnableAt, reservedAt, allotmentAt, sliceAt, listed, withRun, meterLimit}
 use Rattle.scheduler.specs.Sound.{sound}
 use Rattle.scheduler.specs.Refusals.{dispatch, checks, refusal}
 use Rattle.scheduler.specs.Effects.{chosen, passedOver, effect}
@@ -37,9 +37,9 @@ entry s k i h =
     ltb→lt (getD (s .order) i 0) 64 (rw (getD-take (s .count) (s .order) i 0 h) at t)
 
 pub dispatch-number : (s : Scheduler) (ok : Bool) → ok ≡ sound s
-    → firstOf ((not ok ⇒ 16) ∷ (not (eqb (s .running) 64) ⇒ 12) ∷ (leb 10000000000000 (s .meter) ⇒ 15) ∷ []) ≡ refusal dispatch s
+    → firstOf ((not ok ⇒ 16) ∷ (not (eqb (s .running) 64) ⇒ 12) ∷ (leb meterLimit (s .meter) ⇒ 15) ∷ []) ≡ refusal dispatch s
 unfolding refusal checks
-dispatch-number s ok e = ap (λ (b : Bool). firstOf ((not b ⇒ 16) ∷ (not (eqb (s .running) 64) ⇒ 12) ∷ (leb 10000000000000 (s .meter) ⇒ 15) ∷ [])) e
+dispatch-number s ok e = ap (λ (b : Bool). firstOf ((not b ⇒ 16) ∷ (not (eqb (s .running) 64) ⇒ 12) ∷ (leb meterLimit (s .meter) ⇒ 15) ∷ [])) e
 
 -- the answer where x is chosen
 abbrev taking : Scheduler → ℕ → Answered

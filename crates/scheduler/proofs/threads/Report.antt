@@ -16,7 +16,7 @@ use Rattle.scheduler.specs.declared.Thread.{Thread}
 use Rattle.scheduler.specs.declared.Scheduler.{Scheduler}
 use Rattle.scheduler.specs.declared.Answer.{Answer}
 use Rattle.scheduler.specs.declared.Answer.the-variants.{Accepted, Refused}
-use Rattle.scheduler.specs.State.{noThread, threadAt, sliceAt, allotmentAt, listed, stateOf, withThread, withList, withRun}
+use Rattle.scheduler.specs.State.{noThread, threadAt, sliceAt, allotmentAt, listed, stateOf, withThread, withList, withRun, meterMost, sliceMost}
 use Rattle.scheduler.specs.Sound.{sound}
 use Rattle.scheduler.specs.Refusals.{report, checks, refusal}
 use Rattle.scheduler.specs.Effects.{rear, toRear, offList, renewed, chargedThread, charged, exited, reported, effect}
@@ -55,10 +55,10 @@ module _ (s : Scheduler) (reason used : ℕ) where
   pub record Ready : Type 0 where
     pub list : Listed s (s .running)
     pub thousandth : s .settings .thousandth ≤ 1000
-    pub short : used ≤ 1000000
-    pub meter : s .meter ≤ 10000001000000
-    pub ticks : (threadAt s (s .running % 64)) .ticks ≤ 10000001000000
-    pub since : (threadAt s (s .running % 64)) .since ≤ 10000001000000
+    pub short : used ≤ sliceMost
+    pub meter : s .meter ≤ meterMost
+    pub ticks : (threadAt s (s .running % 64)) .ticks ≤ meterMost
+    pub since : (threadAt s (s .running % 64)) .since ≤ meterMost
 
   module _ (e : refusal (report reason used) s ≡ 0) where
     pub ready : Ready
@@ -76,8 +76,8 @@ module _ (s : Scheduler) (reason used : ℕ) where
           thousandth = z .1;
           short = omega (arith, p .1, z .3);
           meter = k .meter;
-          ticks = subst (λ (j : ℕ). (threadAt s j) .ticks ≤ 10000001000000) (sym (l .at)) (omega (arith, t .fit .charged, k .meter));
-          since = subst (λ (j : ℕ). (threadAt s j) .since ≤ 10000001000000) (sym (l .at)) (omega (arith, t .fit .since, k .meter));
+          ticks = subst (λ (j : ℕ). (threadAt s j) .ticks ≤ meterMost) (sym (l .at)) (omega (arith, t .fit .charged, k .meter));
+          since = subst (λ (j : ℕ). (threadAt s j) .since ≤ meterMost) (sym (l .at)) (omega (arith, t .fit .since, k .meter));
         }
 
   -- The new state.

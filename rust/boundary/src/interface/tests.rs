@@ -64,7 +64,7 @@ fn with(calls: &str) -> Result<Interface, Error> {
             "crates/abi/src/blocks.rt" => BLOCKS,
             "crates/scheduler/src/lib.rt" => SCHEDULER,
             "crates/scheduler/src/threads.rt" => RUN,
-            "crates/scheduler/src/priority.rt" => {
+            "crates/priority/src/lib.rt" => {
                 "pub const LOWEST: u64 = 1; pub const HIGHEST: u64 = 10;"
             }
             "crates/record/src/lib.rt" => {
