@@ -1,7 +1,6 @@
 //! The Rust declarations, in rustfmt's layout.
 
-use crate::comment::refusal;
-use crate::interface::{Family, Form, Function, Interface, Pass, Struct};
+use crate::interface::{Constant, Family, Form, Function, Interface, Pass, Struct};
 use crate::{words, wrapped, ANSWER, COMMAND};
 
 const WIDTH: usize = 80;
@@ -70,7 +69,7 @@ unsafe extern \"C\" {
 
 fn constants(family: &Family) -> String {
     let mut out = String::new();
-    for (name, value, doc) in &family.names {
+    for Constant { name, value, doc } in &family.names {
         out += &docs("", doc);
         out += &format!("pub const {name}: {} = {value};\n", family.of);
     }
@@ -81,7 +80,7 @@ fn constants(family: &Family) -> String {
 fn answer_text(family: &Family) -> String {
     let mut out = docs("", "What an answer says, in words.");
     out += "pub const fn answer_text(answer: u32) -> &'static str {\n    match answer {\n";
-    for (name, _, doc) in &family.names {
+    for Constant { name, doc, .. } in &family.names {
         let text = words(doc);
         let line = format!("        {name} => {text:?},\n");
         // rustfmt gives a long one a block of its own.
@@ -147,9 +146,9 @@ fn function(f: &Function) -> String {
         out += "    ///\n";
     } else {
         out += &docs("    ", "Refuses, the first that applies:");
-        for (number, reason) in &f.comment.refuses {
-            let name = refusal(*number).unwrap_or_default();
-            let text = format!("{number} [`{name}`]: {reason}");
+        for refusal in &f.comment.refuses {
+            let (number, name) = (refusal.number, &refusal.name);
+            let text = format!("{number} [`{name}`]: {}", refusal.reason);
             for (i, line) in wrapped(&text, WIDTH - 10).iter().enumerate() {
                 let indent = if i == 0 { "- " } else { "  " };
                 out += &format!("    /// {indent}{line}\n");

@@ -33,7 +33,7 @@ fn texts() -> Vec<String> {
     let interface = boundary::interface::resolve(&sources).unwrap();
     let answers = interface.families.iter().find(|f| f.c == "mtr_answer");
     let names = &answers.unwrap().names;
-    names.iter().map(|n| boundary::words(n.2)).collect()
+    names.iter().map(|n| boundary::words(&n.doc)).collect()
 }
 
 /// No warning, and the program's checks hold: each function beside its export.

@@ -18,7 +18,7 @@ pub fn print(interface: &Interface, costs: &[Cost]) -> String {
     }
     let named = |name: &str| {
         let mut names = interface.families.iter().flat_map(|f| &f.names);
-        names.find(|n| n.0 == name).map_or(0, |n| n.1)
+        names.find(|n| n.name == name).map_or(0, |n| n.value)
     };
     let parts = ["MAJOR", "MINOR", "PATCH"].map(|part| named(&format!("VERSION_{part}")));
     let version = parts.map(|part| part.to_string()).join(".");

@@ -3,9 +3,8 @@
 mod calls;
 mod head;
 
-use crate::comment::refusal;
 use crate::costs::Cost;
-use crate::interface::{c_name, Family, Form, Function, Interface, Pass, Struct};
+use crate::interface::{c_name, Constant, Family, Form, Function, Interface, Pass, Struct};
 use crate::names::BY_VALUE;
 use crate::{words, wrapped, ANSWER};
 
@@ -52,7 +51,7 @@ fn constants(family: &Family) -> String {
     let mut out = comment("", family.doc);
     if family.c.is_empty() {
         out.push('\n');
-        for (name, value, doc) in &family.names {
+        for Constant { name, value, doc } in &family.names {
             let value = match family.of {
                 "u64" => format!("UINT64_C({value})"),
                 _ => value.to_string(),
@@ -64,7 +63,7 @@ fn constants(family: &Family) -> String {
     }
     out += &format!("typedef enum {} MTR_UNSIGNED {{\n", family.c);
     let last = family.names.len().saturating_sub(1);
-    for (i, (name, value, doc)) in family.names.iter().enumerate() {
+    for (i, Constant { name, value, doc }) in family.names.iter().enumerate() {
         let comma = if i == last { "" } else { "," };
         out += &comment("    ", doc);
         out += &format!("    {PREFIX}{name} = {value}{comma}\n");
@@ -77,7 +76,7 @@ fn answer_text(family: &Family) -> String {
     let mut out = comment("", "What an answer says, in words.");
     out += "MTR_MUST_USE static inline const char *mtr_answer_text(mtr_answer answer)\n{\n";
     out += "    switch (answer) {\n";
-    for (name, _, doc) in &family.names {
+    for Constant { name, doc, .. } in &family.names {
         out += &format!("    case {PREFIX}{name}:\n");
         out += &format!("        return {:?};\n", words(doc));
     }
@@ -165,9 +164,9 @@ fn described(f: &Function, leaves: &str) -> Vec<String> {
         lines.push("Refuses nothing.".to_string());
     } else {
         lines.push("Refuses, the first that applies:".to_string());
-        for (number, reason) in &f.comment.refuses {
-            let name = refusal(*number).unwrap_or_default();
-            let text = format!("{number} {PREFIX}{name}: {reason}");
+        for refusal in &f.comment.refuses {
+            let (number, name) = (refusal.number, &refusal.name);
+            let text = format!("{number} {PREFIX}{name}: {}", refusal.reason);
             for (i, line) in wrapped(&text, WIDTH - 9).iter().enumerate() {
                 let indent = if i == 0 { "  " } else { "      " };
                 lines.push(format!("{indent}{line}"));

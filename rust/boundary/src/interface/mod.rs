@@ -97,6 +97,14 @@ pub struct Section {
     pub functions: Vec<Function>,
 }
 
+/// A constant's name outside without the prefix, its value, and what it is.
+#[derive(Clone, Debug, PartialEq, Eq)]
+pub struct Constant {
+    pub name: String,
+    pub value: u64,
+    pub doc: String,
+}
+
 /// Constants that belong together, with their values.
 #[derive(Clone, Debug, PartialEq, Eq)]
 pub struct Family {
@@ -104,7 +112,7 @@ pub struct Family {
     pub of: &'static str,
     /// The enum in C; macros if it has no name.
     pub c: &'static str,
-    pub names: Vec<(&'static str, u64, &'static str)>,
+    pub names: Vec<Constant>,
 }
 
 #[derive(Clone, Debug, Default, PartialEq, Eq)]

@@ -3,11 +3,11 @@
 
 use std::collections::BTreeMap;
 
-use super::{c_name, Family, Form, Function, Interface, Pass, Section, Sources, NUMBERS};
+use super::{c_name, Constant, Family, Form, Function, Interface, Pass, Section, Sources, NUMBERS};
 use crate::comment::comment;
 use crate::names::{FAMILIES, SECTIONS};
 use crate::parse::{self, parse, File, Path, Type};
-use crate::Error;
+use crate::{Error, ANSWER};
 
 const CRATE: &str = "abi";
 
@@ -17,6 +17,7 @@ pub fn resolve(sources: &Sources) -> Result<Interface, Error> {
         sources,
         files: BTreeMap::new(),
         homes: BTreeMap::new(),
+        answers: Vec::new(),
         found: Interface::default(),
     };
     let root = path_of(CRATE, None);
@@ -29,6 +30,9 @@ pub fn resolve(sources: &Sources) -> Result<Interface, Error> {
         let text = format!("the modules are {present:?}, and the sections {listed:?}");
         return Err(Error::at(&root, 1, text));
     }
+    for family in FAMILIES.iter().filter(|f| f.c == ANSWER) {
+        work.answers = work.names(family)?;
+    }
     for (module, title) in SECTIONS {
         let file = path_of(CRATE, Some(module));
         let functions = work.load(&file, &root, 1)?.functions.clone();
@@ -38,16 +42,12 @@ pub fn resolve(sources: &Sources) -> Result<Interface, Error> {
     }
     work.distinct()?;
     for family in FAMILIES {
-        let names: Result<_, _> = family
-            .names
-            .iter()
-            .map(|&(name, value, doc)| Ok((name, work.value(name, value)?, doc)))
-            .collect();
+        let names = work.names(&family)?;
         work.found.families.push(Family {
             doc: family.doc,
             of: family.of,
             c: family.c,
-            names: names?,
+            names,
         });
     }
     Ok(work.found)
@@ -63,6 +63,8 @@ pub(super) struct Work<'a> {
     pub(super) files: BTreeMap<String, File>,
     /// The source of each struct that is added.
     pub(super) homes: BTreeMap<String, String>,
+    /// The answers, 0 among them.
+    answers: Vec<Constant>,
     pub(super) found: Interface,
 }
 
@@ -98,7 +100,7 @@ impl Work<'_> {
             return Err(Error::at(file, f.line, text));
         }
         Ok(Function {
-            comment: comment(file, f)?,
+            comment: comment(file, f, &self.answers)?,
             name: f.name.clone(),
             parameters,
             result,

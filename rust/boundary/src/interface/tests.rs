@@ -60,7 +60,10 @@ fn with(calls: &str) -> Result<Interface, Error> {
                 "pub mod blocks;\npub mod calls;\npub mod roster;\npub mod version;"
             }
             "crates/abi/src/calls.rt" => &calls,
-            "crates/abi/src/roster.rt" | "crates/abi/src/version.rt" => "",
+            "crates/abi/src/roster.rt" => "",
+            "crates/abi/src/version.rt" => {
+                "pub const MAJOR: u32 = 2; pub const MINOR: u32 = 3; pub const PATCH: u32 = 4;"
+            }
             "crates/abi/src/blocks.rt" => BLOCKS,
             "crates/scheduler/src/lib.rt" => SCHEDULER,
             "crates/scheduler/src/threads.rt" => RUN,
@@ -108,8 +111,11 @@ fn offsets() {
         .families
         .iter()
         .flat_map(|f| &f.names)
-        .find(|n| n.0 == "RECORDS");
-    assert_eq!(records.map(|n| n.1), Some(31));
+        .find(|n| n.name == "RECORDS");
+    assert_eq!(records.map(|n| n.value), Some(31));
+    let mut names = found.families.iter().flat_map(|f| &f.names);
+    let version = names.find(|n| n.name == "VERSION");
+    assert_eq!(version.map(|n| n.value), Some(20304));
 }
 
 #[test]
