@@ -33,7 +33,10 @@ use Rattle.scheduler.specs.State.{
   runnableAt,
   withThread,
   withList,
-, meterLimit, meterMost, sliceMost}
+  meterLimit,
+  meterMost,
+  sliceMost,
+}
 use Rattle.scheduler.specs.Sound.{settingsOk, load, groupOk, groupsOk, threadOk, listOk, runningOk, shapeOk, sound}
 use Rattle.scheduler.specs.Effects.{join}
 
