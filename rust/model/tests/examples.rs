@@ -1,4 +1,4 @@
-//! The paper's listing, its edges and the bugs it names.
+//! The worked examples of RULE 10, their edges, and programs that the rule excludes.
 
 use model::accounts::Entry;
 use model::blocks::{check, kind, read_block, write_block, Record};
