@@ -1,4 +1,4 @@
-//! Units, round steps and numbers of the axes.
+//! Units, round steps and numbers of axes and tables.
 
 /// A unit of time and its length in ticks.
 #[derive(Clone, Copy, Debug, PartialEq)]
@@ -111,6 +111,15 @@ pub fn duration(ticks: f64) -> String {
     format!("{} {}", number(value, decimals), unit.name)
 }
 
+/// Ticks to the last one, in milliseconds, or from ten seconds on in seconds.
+pub fn exact(ticks: u64) -> String {
+    match ticks {
+        0 => "0".into(),
+        1..10_000_000 => format!("{} ms", number(ticks as f64 / 1e3, 3)),
+        _ => format!("{} s", number(ticks as f64 / 1e6, 6)),
+    }
+}
+
 #[cfg(test)]
 mod tests {
     use super::*;
@@ -147,5 +156,14 @@ mod tests {
         assert_eq!(unit(2_006_000.0).name, "ms");
         assert_eq!(unit(9_000_000.0).name, "s");
         assert_eq!(duration(1e13), "2,778 h");
+    }
+
+    #[test]
+    fn exact_times_keep_every_tick() {
+        assert_eq!(exact(0), "0");
+        assert_eq!(exact(32_000), "32 ms");
+        assert_eq!(exact(1), "0.001 ms");
+        assert_eq!(exact(9_999_999), "9,999.999 ms");
+        assert_eq!(exact(512_345_678), "512.345678 s");
     }
 }
