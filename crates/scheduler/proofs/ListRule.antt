@@ -1,4 +1,4 @@
--- The list facts of the paper's "The list rule", as theorems: mutual order, place and allotment, wake, idle, and the count before the
+-- RULE 2 as theorems: mutual order, place and allotment, wake, idle, and the count before the
 -- chosen thread; and when the anchor is set.
 use Prim.Native.Nat.{ℕ, _+_, _-_, _*_, _≤_, _<_}
 use mathlib.Core.Path.{_≡_, refl, ap, _∙_}

@@ -1,4 +1,4 @@
--- "The list rule": what each accepted call does.
+-- RULE 2: what each accepted call does.
 use Prim.Native.Nat.{ℕ, _+_, _-_}
 use mathlib.Core.List.{List, [], _∷_, _++_}
 use mathlib.Core.Bool.{Bool, cond, _||_}
@@ -10,7 +10,7 @@ use Rattle.scheduler.specs.declared.Scheduler.{Scheduler}
 use Rattle.scheduler.specs.State.{noThread, noGroup, stateOf, threadAt, runnableAt, quantum, listed, withThread, withGroup, withList, withRun}
 use Rattle.scheduler.specs.Refusals.{Call, openGroup, closeGroup, admit, remove, wake, dispatch, report}
 
--- "moves to the rear": the others keep their mutual order, and so does what stands past the list's end
+-- RULE 2.10: n behind the others, which keep their order, as does what stands past the list's end
 unfoldable pub rear : Scheduler → ℕ → List ℕ
 rear s n = without n (listed s) ++ n ∷ drop (s .count) (s .order)
 
@@ -21,11 +21,11 @@ toRear n s = withList s (rear s n) (s .count)
 unfoldable pub offList : ℕ → Scheduler → Scheduler
 offList n s = withList s (rear s n) (s .count - 1)
 
--- "goes to the rear"
+-- a newcomer behind all others
 unfoldable pub join : ℕ → Scheduler → Scheduler
 join n s = withList s (set (s .order) (s .count) n) (s .count + 1)
 
--- "An admitted thread is runnable, has a full allotment"; its anchor is set
+-- RULE 2.3, 4.2
 unfoldable pub newThread : Scheduler → ℕ → ℕ → Thread
 newThread s g f = record {
   admission = s .meter;
@@ -38,7 +38,7 @@ newThread s g f = record {
   status = 1;
 }
 
--- "Wake makes a blocked thread runnable and changes neither place nor allotment"; its anchor is set
+-- RULE 2.8, 4.2
 unfoldable pub wokenThread : Scheduler → Thread → Thread
 wokenThread s t = record {
   admission = t .admission;
@@ -51,13 +51,11 @@ wokenThread s t = record {
   status = 1;
 }
 
--- "If the allotment reaches 0 it is made full and the thread moves to the rear." "A yield fills the allotment and moves to the rear
--- once, also when nothing was left."
+-- RULE 2.6, 2.7: a report fills the allotment at a yield, and where nothing of it is left
 unfoldable pub renewed : ℕ → ℕ → Thread → Bool
 renewed reason used t = eqb reason 2 || leb (t .allotment) used
 
--- "A report charges the running thread the ticks used." Reasons: 0 tick, 1 block, 2 yield. "Its anchor is set .. at its own yield,
--- after that report's charge."
+-- RULE 2.5, 2.7, 4.2. Reasons: 0 tick, 1 block, 2 yield. A yield's own charge is before the anchor that it sets.
 unfoldable pub chargedThread : Scheduler → ℕ → ℕ → Thread → Thread
 chargedThread s reason used t = record {
   admission = t .admission;
@@ -70,11 +68,11 @@ chargedThread s reason used t = record {
   status = cond (eqb reason 1) 2 1;
 }
 
--- "The meter is the sum of ticks in all accepted reports"; the report "ends its run"
+-- RULE 4.1; the run ends
 unfoldable pub charged : ℕ → ℕ → ℕ → Scheduler → Scheduler
 charged r reason used s = withRun (withThread s r (chargedThread s reason used (threadAt s r))) 64 (s .meter + used)
 
--- "Exit takes the thread off the list and frees number and reservation"
+-- RULE 2.7: reason 3, exit
 unfoldable pub exited : ℕ → ℕ → Scheduler → Scheduler
 exited r used s = offList r (withRun (withThread s r noThread) 64 (s .meter + used))
 
@@ -83,7 +81,7 @@ reported r reason used s =
     cond (eqb reason 3) (exited r used s)
     (cond (renewed reason used (threadAt s r)) (toRear r (charged r reason used s)) (charged r reason used s))
 
--- "Dispatch takes the first runnable thread of the list": its number, or 64. "how many threads stood before it in the list"
+-- RULE 2.4: the first runnable thread of the list, or 64, and how many threads stand before it
 unfoldable pub chosen : Scheduler → ℕ
 chosen s = first (runnableAt s) (listed s)
 

@@ -1,5 +1,5 @@
--- "What each call turns down." Checks run in the order written; the first that applies is the answer. Every call that takes a state
--- first gives 16 if it is not sound.
+-- RULE 6.1, 6.4: what each call turns down. Checks run in the order written; the first that applies is the answer, and before all of
+-- them 16, where the state is not sound.
 use Prim.Native.Nat.{ℕ, _-_}
 use mathlib.Core.List.{List, [], _∷_}
 use mathlib.Core.Bool.{Bool, not, cond, _&&_, _||_}
@@ -20,11 +20,11 @@ pub data Call : Type 0 where
   dispatch : Call
   report : (reason used : ℕ) → Call
 
--- "what the group has free"
+-- RULE 3.3: what a group has left to give
 unfoldable pub free : Scheduler → ℕ → ℕ
 free s g = (groupAt s g) .ceiling - load s g
 
--- "it has a thread or a child"
+-- a thread or a child group counts in it
 unfoldable pub inUse : Scheduler → ℕ → Bool
 inUse s g = not (everyBelow (λ n. not (threadIn s g n)) 64) || not (everyBelow (λ c. not (childOf s g c)) 16)
 
@@ -57,6 +57,6 @@ checks (report reason used) s =
 unfoldable pub refusal : Call → Scheduler → ℕ
 refusal c s = firstOf ((not (sound s) ⇒ 16) ∷ checks c s)
 
--- start: 1, m or P outside its range
+-- RULE 6.6
 unfoldable pub startRefusal : ℕ → ℕ → ℕ
 startRefusal m p = firstOf ((not (within 1 1000 m) || not (within 1 sliceMost p) ⇒ 1) ∷ [])

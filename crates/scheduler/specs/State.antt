@@ -1,5 +1,5 @@
 -- The state, read by thread and group number, and written by thread, group, list and run.
--- Letters of the paper: m is `thousandth`, P is `interval`, f is `reservation`.
+-- RULE 1. Its letters: m is `thousandth`, P is `interval`, f is `reservation`.
 use Prim.Native.Nat.{ℕ, _*_, min}
 use mathlib.Core.List.{List}
 use mathlib.Core.Bool.{Bool, _&&_}
@@ -10,7 +10,7 @@ use Rattle.scheduler.specs.declared.Thread.{Thread}
 use Rattle.scheduler.specs.declared.Group.{Group}
 use Rattle.scheduler.specs.declared.Scheduler.{Scheduler}
 
--- "by default 100", "by default 20,000"
+-- RULE 1.4
 abbrev pub defaultSettings : Settings
 defaultSettings = record { thousandth = 100; interval = 20000 }
 
@@ -24,7 +24,7 @@ meterMost = 10000001000000
 abbrev pub sliceMost : ℕ
 sliceMost = 1000000
 
--- A freed entry is all zeros.
+-- RULE 1.6
 abbrev pub noThread : Thread
 noThread = record { admission = 0; anchor = 0; ticks = 0; since = 0; allotment = 0; reservation = 0; group = 0; status = 0 }
 
@@ -72,15 +72,15 @@ allotmentAt s n = (threadAt s n) .allotment
 unfoldable pub openAt : Scheduler → ℕ → Bool
 openAt s n = ltb n 16 && isOpen (groupAt s n)
 
--- "A thread of reservation f has a quantum of f × m ticks"
+-- RULE 2.1
 abbrev pub quantum : Scheduler → ℕ → ℕ
 quantum s f = f * s .settings .thousandth
 
--- "One list": front first
+-- RULE 2.2, front first
 unfoldable pub listed : Scheduler → List ℕ
 listed s = take (s .count) (s .order)
 
--- "Its slice is the smaller of its allotment and P."
+-- RULE 2.4
 unfoldable pub sliceAt : Scheduler → ℕ → ℕ
 sliceAt s n = min (allotmentAt s n) (s .settings .interval)
 
