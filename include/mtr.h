@@ -38,9 +38,11 @@
  * lets a handler begin below the red zone or on a stack of its own.
  *
  * Costs. Stack is in bytes, from the caller's frame on: the call's arguments and
- * reply, and the library's frames. Instructions are those of the dearest case
- * that was measured, with 64 threads and 16 groups; the time of a call has no
- * other bound than these and the machine's.
+ * reply, and the library's frames; a handler needs it on top of its own, and the
+ * functions below add less than 160 bytes with gcc and clang. Instructions are
+ * those within the library, in the dearest accepted case that was measured: 64
+ * threads in 16 groups, a full block. The copies of the state that the functions
+ * below make come on top. Both are measured on this version's code.
  *
  *     call                 stack    instructions
  *     mtr_start             2800            2702
@@ -185,7 +187,7 @@ typedef enum mtr_answer MTR_UNSIGNED {
      * The group's number is above 15, already open or not above the parent's.
      */
     MTR_REFUSED_GROUP_NUMBER = 3,
-    /* The ceiling, reservation or priority is outside its range. */
+    /* The ceiling or reservation is outside its range. */
     MTR_REFUSED_AMOUNT = 4,
     /* The ceiling or reservation exceeds what the group has free. */
     MTR_REFUSED_NO_ROOM = 5,
@@ -296,7 +298,7 @@ MTR_MUST_USE static inline const char *mtr_answer_text(mtr_answer answer)
     case MTR_REFUSED_GROUP_NUMBER:
         return "the group's number is above 15, already open or not above the parent's";
     case MTR_REFUSED_AMOUNT:
-        return "the ceiling, reservation or priority is outside its range";
+        return "the ceiling or reservation is outside its range";
     case MTR_REFUSED_NO_ROOM:
         return "the ceiling or reservation exceeds what the group has free";
     case MTR_REFUSED_GROUP_IN_USE:

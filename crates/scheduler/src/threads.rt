@@ -2,16 +2,15 @@
 // old values if it is refused: so the compiler keeps one state and copies it out once. A thread number above 63 is refused
 // whatever the entry that stands for it holds.
 ghost use mathlib.Core.Path.{_≡_};
-ghost use mathlib.Core.Bool.{true, not, cond, _||_};
-ghost use mathlib.Core.List.{[], _∷_, _++_};
+ghost use mathlib.Core.Bool.{true, cond, _||_};
+ghost use mathlib.Core.List.{_++_};
 ghost use Prim.Native.Nat.{_+_, _-_, _*_, min, _≤_, _<_};
-ghost use lib.Dec.{ltb, leb, eqb};
+ghost use lib.Dec.{eqb};
 ghost use lib.ListN.{take, drop};
-ghost use Rattle.base.specs.Checks.{_⇒_, firstOf};
 ghost use Rattle.order.specs.Queue.{requeue};
-ghost use Rattle.scheduler.specs.State.{noThread};
+ghost use Rattle.scheduler.specs.State.{noThread, meterMost, sliceMost};
 ghost use Rattle.scheduler.specs.Sound.{sound};
-ghost use Rattle.scheduler.specs.Refusals.{remove, wake, dispatch, report, startRefusal};
+ghost use Rattle.scheduler.specs.Refusals.{remove, wake, dispatch, report};
 ghost use Rattle.scheduler.specs.Effects.{renewed, chargedThread, wokenThread, unstarted};
 ghost use Rattle.scheduler.specs.Answers.{answeredTo, startAnswered};
 use crate::Answer;
@@ -20,6 +19,7 @@ use crate::Group;
 use crate::Scheduler;
 use crate::Settings;
 use crate::Thread;
+use crate::refusal;
 
 // The reasons of a report.
 pub const TICK: u64 = 0;
@@ -32,7 +32,7 @@ pub const EXIT: u64 = 3;
 
 // The meter, or a thread's own count, after a report of the ticks used.
 fn charge(total: u64, used: u64) -> u64
-    requires { ⌜ (total ≤ 10000001000000) × (used ≤ 1000000) ⌝ }
+    requires { ⌜ (total ≤ meterMost) × (used ≤ sliceMost) ⌝ }
     ensures { λ r. ⌜ r ≡ total + used ⌝ }
 {
     total + used
@@ -153,9 +153,9 @@ impl Thread {
     // The thread after a report that is accepted and leaves the meter at `meter`.
     fn charged(mut self, meter: u64, thousandth: u32, reason: u64, used: u64) -> Self
         requires { ⌜ (thousandth ≤ 1000)
-            × (used ≤ 1000000)
-            × (self .ticks ≤ 10000001000000)
-            × (self .since ≤ 10000001000000) ⌝ }
+            × (used ≤ sliceMost)
+            × (self .ticks ≤ meterMost)
+            × (self .since ≤ meterMost) ⌝ }
         ensures { λ r. ⌜ ((s : Scheduler) → s .meter + used ≡ meter → s .settings .thousandth ≡ thousandth
             → r ≡ cond (eqb reason 3) noThread (chargedThread s reason used self)) ⌝ }
     {
@@ -184,9 +184,9 @@ impl Thread {
     // The thread after a report.
     fn reported(self, accepted: bool, meter: u64, thousandth: u32, reason: u64, used: u64) -> Self
         requires { ⌜ (accepted ≡ true → (thousandth ≤ 1000)
-            × (used ≤ 1000000)
-            × (self .ticks ≤ 10000001000000)
-            × (self .since ≤ 10000001000000)) ⌝ }
+            × (used ≤ sliceMost)
+            × (self .ticks ≤ meterMost)
+            × (self .since ≤ meterMost)) ⌝ }
         ensures { λ r. ⌜ ((s : Scheduler) → (accepted ≡ true → s .meter + used ≡ meter) → s .settings .thousandth ≡ thousandth
             → r ≡ cond accepted (cond (eqb reason 3) noThread (chargedThread s reason used self)) self) ⌝ }
     {
@@ -199,7 +199,7 @@ impl Thread {
 
 // The meter after a report.
 fn meter_after(accepted: bool, meter: u64, used: u64) -> u64
-    requires { ⌜ (accepted ≡ true → (meter ≤ 10000001000000) × (used ≤ 1000000)) ⌝ }
+    requires { ⌜ (accepted ≡ true → (meter ≤ meterMost) × (used ≤ sliceMost)) ⌝ }
     ensures { λ r. ⌜ r ≡ cond accepted (meter + used) meter ⌝ }
 {
     if accepted {
@@ -249,98 +249,6 @@ fn searched(code: u32, count: u32) -> u32
     0
 }
 
-// The number that a start is refused with, or 0.
-fn start_code(thousandth: u64, interval: u64) -> u32
-    ensures { λ r. ⌜ r ≡ startRefusal thousandth interval ⌝ }
-{
-    if thousandth < 1 {
-        return 1;
-    }
-    if (Settings::THOUSANDTH_MOST as u64) < thousandth {
-        return 1;
-    }
-    if interval < 1 {
-        return 1;
-    }
-    if (Settings::INTERVAL_MOST as u64) < interval {
-        return 1;
-    }
-    0
-}
-
-// The number that removing a thread of a status is refused with, or 0.
-fn remove_code(ok: bool, number: u64, status: u8, running: u32) -> u32
-    ensures { λ r. ⌜ r ≡ firstOf ((not ok ⇒ 16) ∷ (ltb 63 number || not (ltb 0 status) ⇒ 7) ∷ (eqb running number ⇒ 9) ∷ []) ⌝ }
-{
-    if !ok {
-        return 16;
-    }
-    if Scheduler::THREADS as u64 <= number {
-        return 7;
-    }
-    if status == 0 {
-        return 7;
-    }
-    if running as u64 == number {
-        return 9;
-    }
-    0
-}
-
-// The number that waking a thread of a status is refused with, or 0.
-fn wake_code(ok: bool, number: u64, status: u8) -> u32
-    ensures { λ r. ⌜ r ≡ firstOf ((not ok ⇒ 16) ∷ (ltb 63 number || not (ltb 0 status) ⇒ 7) ∷ (not (eqb status 2) ⇒ 10) ∷ []) ⌝ }
-{
-    if !ok {
-        return 16;
-    }
-    if Scheduler::THREADS as u64 <= number {
-        return 7;
-    }
-    if status == 0 {
-        return 7;
-    }
-    if status != Thread::BLOCKED {
-        return 10;
-    }
-    0
-}
-
-// The number that a dispatch is refused with, or 0.
-fn dispatch_code(ok: bool, running: u32, meter: u64) -> u32
-    ensures { λ r. ⌜ r ≡ firstOf ((not ok ⇒ 16) ∷ (not (eqb running 64) ⇒ 12) ∷ (leb 10000000000000 meter ⇒ 15) ∷ []) ⌝ }
-{
-    if !ok {
-        return 16;
-    }
-    if running != Scheduler::THREADS {
-        return 12;
-    }
-    if Scheduler::METER_LIMIT <= meter {
-        return 15;
-    }
-    0
-}
-
-// The number that a report is refused with, or 0.
-fn report_code(ok: bool, running: u32, reason: u64, slice: u32, used: u64) -> u32
-    ensures { λ r. ⌜ r ≡ firstOf ((not ok ⇒ 16) ∷ (eqb running 64 ⇒ 11) ∷ (ltb 3 reason ⇒ 14) ∷ (ltb slice used ⇒ 13) ∷ []) ⌝ }
-{
-    if !ok {
-        return 16;
-    }
-    if running == Scheduler::THREADS {
-        return 11;
-    }
-    if EXIT < reason {
-        return 14;
-    }
-    if (slice as u64) < used {
-        return 13;
-    }
-    0
-}
-
 impl Scheduler {
     // All zeros, which is no sound state.
     fn unstarted() -> Self
@@ -371,7 +279,7 @@ impl Scheduler {
     pub fn start(thousandth: u64, interval: u64) -> Answered
         ensures { λ r. ⌜ r ≡ startAnswered thousandth interval ⌝ }
     {
-        let code = start_code(thousandth, interval);
+        let code = refusal::start_code(thousandth, interval);
         let mut answer = Answer::Refused(code);
         let mut state = Self::unstarted();
         if code == 0 {
@@ -435,7 +343,7 @@ impl Scheduler {
     {
         let at = (number % Self::THREADS as u64) as usize;
         let thread = self.threads[at];
-        let code = remove_code(ok, number, thread.status, self.running);
+        let code = refusal::remove_code(ok, number, thread.status, self.running);
         let accepted = code == 0;
         let count = self.count;
         let list = self.order;
@@ -456,7 +364,7 @@ impl Scheduler {
     {
         let at = (number % Self::THREADS as u64) as usize;
         let thread = self.threads[at];
-        let code = wake_code(ok, number, thread.status);
+        let code = refusal::wake_code(ok, number, thread.status);
         let woken = thread.woken(code == 0, self.meter);
         self.threads[at] = woken;
         Answered {
@@ -470,7 +378,7 @@ impl Scheduler {
         ensures { λ r. ⌜ r ≡ answeredTo dispatch self ⌝ }
     {
         let running = self.running;
-        let code = dispatch_code(ok, running, self.meter);
+        let code = refusal::dispatch_code(ok, running, self.meter);
         let count = searched(code, self.count);
         let mut stop = count;
         let mut before: u32 = 0;
@@ -504,7 +412,7 @@ impl Scheduler {
         let at = (running % Self::THREADS) as usize;
         let thread = self.threads[at];
         let slice = thread.slice(self.settings.interval);
-        let code = report_code(ok, running, reason, slice, used);
+        let code = refusal::report_code(ok, running, reason, slice, used);
         let charges = code == 0;
         let count = self.count;
         let list = self.order;

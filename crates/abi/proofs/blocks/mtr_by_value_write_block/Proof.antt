@@ -1,3 +1,4 @@
+-- `mtr_by_value_write_block` meets its contract: it hands out the number of what the writer answers, and its area.
 use mathlib.Core.Path.{ap, _∙_}
 use Rattle.block.specs.Block.{refusalOf}
 use borrow.Author.Needs.{needs}

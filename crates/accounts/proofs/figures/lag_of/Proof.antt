@@ -6,10 +6,6 @@ use Rattle.accounts.proofs.Signed.{diff-fits, diff-bits, due-small, lag
 use Rattle.accounts.proofs.figures.lag_of.Statement.{statement}
 use Rattle.accounts.proofs.figures.lag_of.Tie as tie
 
--- the place that the needs look back to
-abbrev start : tie.After-struct-known3 → tie.Start
-start p = p .before .before .before .before
-
 returns : tie.Need-returns
 returns c = sym (lag-blocked _ _ (c .if1 .taken))
 
@@ -21,7 +17,7 @@ sub-due c = search needs
 
 mul-due : tie.Need-mul-due
 mul-due c =
-    let s = start c in
+    let s = c .before .before .before .before in
     record { fits = omega (arith, due-small (s .args .meter) (s .args .t) (s .pre)) }
 
 mul-had : tie.Need-mul-had
@@ -29,7 +25,7 @@ mul-had c = search needs
 
 cast-result : tie.Need-cast-result
 cast-result c =
-    let s = start (c .before) in
+    let s = c .before .before .before .before .before in
     record { sfits = due-small _ _ (s .pre) }
 
 cast-result-2 : tie.Need-cast-result-2
