@@ -1,7 +1,8 @@
 #!/bin/sh
-# Fills a folder that a firmware project can vendor: the static library, the C header, the Rust crate, VERSION and SHA256SUMS.
+# Fills a folder that a firmware project can vendor: the static library and its header, with files for pkg-config and CMake; the Rust crate;
+# mtrrun and journal for the bench; the example hosts; what was proved; VERSION, KIT and SHA256SUMS.
 #   ./dist.sh [--no-build] [FOLDER]     FOLDER is dist/ if none is given; an earlier one is replaced
-# --no-build takes target/staticlib/libabi.a as it is instead of proving and building it. The version is git's, or $VERSION if it is set.
+# --no-build takes what stands in target/ as it is instead of proving and building it. The revision is git's, or $REVISION if it is set.
 # After a failure FOLDER is as it was.
 set -u
 
@@ -34,11 +35,14 @@ cd "$root" || fail "can't enter $root"
 
 if [ "$build" = yes ]; then
     rt staticlib abi || fail "rt staticlib abi failed"
-    cargo run --quiet --offline --release -p boundary -- --check ||
-        fail "the header or the Rust declarations are out of date"
+    rt check mtrrun || fail "rt check mtrrun failed"
+    cargo run --quiet --offline --release -p boundary -- --check || fail "the header or the Rust declarations are out of date"
+    cargo build --quiet --offline --release -p journal || fail "journal can't be built"
 fi
 archive=target/staticlib/libabi.a
-[ -f "$archive" ] || fail "$archive is missing: run ./dist.sh without --no-build"
+for file in "$archive" target/bin/mtrrun target/cargo/release/journal; do
+    [ -f "$file" ] || fail "$file is missing: run ./dist.sh without --no-build"
+done
 needs=$(nm -u "$archive") || fail "nm can't read $archive"
 needs=$(echo "$needs" | awk '$1 == "U" { printf "%s%s", gap, $2; gap = " " }')
 for name in $needs; do
@@ -47,8 +51,19 @@ for name in $needs; do
     *) fail "$archive needs $name; of libc it may need the mem functions alone" ;;
     esac
 done
-version=${VERSION-$(git describe --always --dirty --tags)} || fail "no version: git describe failed; set VERSION"
-[ -n "$version" ] || fail "no version: VERSION is empty"
+version=$(sed -n 's/^version = "\([0-9][0-9.]*\)"$/\1/p' rust/mtr/Cargo.toml) || fail "can't read rust/mtr/Cargo.toml"
+[ -n "$version" ] || fail "rust/mtr/Cargo.toml has no version"
+revision=${REVISION-$(git describe --always --dirty --abbrev=40)} || fail "no revision: git describe failed; set REVISION"
+[ -n "$revision" ] || fail "no revision: REVISION is empty"
+kit=$(rt version) || fail "no kit's id: rt version failed"
+
+# The gate's last line counts if the gate ended after the revision was made.
+gate="was not run for this tree"
+if [ -f target/gate.txt ]; then
+    made=$(git log -1 --format=%ct 2>/dev/null || echo 0)
+    ended=$(stat -c %Y target/gate.txt) || fail "no time of target/gate.txt"
+    [ "$ended" -lt "$made" ] || gate=$(tail -n 1 target/gate.txt)
+fi
 
 mkdir -p "$(dirname "$folder")" || fail "can't make the folder above $folder"
 new=$(mktemp -d "$folder.new.XXXXXX") || fail "can't make a folder beside $folder"
@@ -59,30 +74,103 @@ trap 'exit 1' HUP INT TERM
 package='/^\[/ { tests = /dev-dependencies/ || /^\[\[(test|example|bench)\]\]/ } !tests'
 {
     chmod 755 "$new" &&
-        mkdir "$new/lib" "$new/include" "$new/rust" &&
+        mkdir -p "$new/bin" "$new/lib/pkgconfig" "$new/lib/cmake/mtr" "$new/include" "$new/rust" "$new/examples/host/rust" &&
         cp "$archive" "$new/lib/libmtr.a" &&
+        cp target/bin/mtrrun target/cargo/release/journal "$new/bin/" &&
         cp include/mtr.h "$new/include/mtr.h" &&
         cp -R rust/mtr/build.rs rust/mtr/src "$new/rust/" &&
         awk "$package" rust/mtr/Cargo.toml >"$new/rust/Cargo.toml" &&
-        echo "$version" >"$new/VERSION"
+        cp -R examples/host/c "$new/examples/host/" &&
+        cp -R examples/host/rust/src "$new/examples/host/rust/" &&
+        awk "$package" examples/host/rust/Cargo.toml | sed 's,"../../../rust/mtr","../../../rust",' >"$new/examples/host/rust/Cargo.toml" &&
+        echo "$version" >"$new/VERSION" &&
+        echo "$kit" >"$new/KIT"
 } || fail "can't fill $new"
+printf '\n[workspace]\n' >>"$new/examples/host/rust/Cargo.toml" || fail "can't write the example's manifest"
+
+cat >"$new/lib/pkgconfig/mtr.pc" <<END || fail "can't write mtr.pc"
+prefix=\${pcfiledir}/../..
+
+Name: mtr
+Description: The move-to-rear list scheduler
+Version: $version
+Cflags: -I\${prefix}/include
+Libs: -L\${prefix}/lib -lmtr
+END
+cat >"$new/lib/cmake/mtr/mtrConfig.cmake" <<'END' || fail "can't write mtrConfig.cmake"
+# find_package(mtr) gives the target mtr::mtr.
+get_filename_component(mtr_prefix "${CMAKE_CURRENT_LIST_DIR}/../../.." ABSOLUTE)
+if(NOT TARGET mtr::mtr)
+    add_library(mtr::mtr STATIC IMPORTED)
+    set_target_properties(mtr::mtr PROPERTIES
+        IMPORTED_LOCATION "${mtr_prefix}/lib/libmtr.a"
+        INTERFACE_INCLUDE_DIRECTORIES "${mtr_prefix}/include")
+endif()
+unset(mtr_prefix)
+END
+cat >"$new/lib/cmake/mtr/mtrConfigVersion.cmake" <<END || fail "can't write mtrConfigVersion.cmake"
+set(PACKAGE_VERSION $version)
+END
+cat >>"$new/lib/cmake/mtr/mtrConfigVersion.cmake" <<'END' || fail "can't write mtrConfigVersion.cmake"
+# The same major version, and no later one than this.
+string(REGEX MATCH "^[0-9]+" mtr_major "${PACKAGE_VERSION}")
+if(PACKAGE_FIND_VERSION VERSION_GREATER PACKAGE_VERSION OR NOT PACKAGE_FIND_VERSION_MAJOR EQUAL mtr_major)
+    set(PACKAGE_VERSION_COMPATIBLE FALSE)
+else()
+    set(PACKAGE_VERSION_COMPATIBLE TRUE)
+    if(PACKAGE_FIND_VERSION VERSION_EQUAL PACKAGE_VERSION)
+        set(PACKAGE_VERSION_EXACT TRUE)
+    endif()
+endif()
+END
+
+# The page of what is proved, under what this folder was made of. Its own title goes.
+{
+    cat <<END && sed 1d docs/PROOFS.md
+# What was proved of this library
+
+| | |
+|---|---|
+| version | $version |
+| commit | $revision |
+| kit | $kit |
+| gate | $gate |
+| library | sha256 $(sha256sum <"$archive" | cut -d ' ' -f 1) |
+
+\`lib/libmtr.a\` is what the kit wrote after its checker had accepted every exported function and everything below it. The gate checks all
+proofs from nothing, tries edits that must be refused, and runs the tests; its last line counts what passed. What follows says what was
+proved, by the names of the definitions and theorems in the sources of this commit, and what was not.
+END
+} >"$new/PROVED.md" || fail "can't write PROVED.md"
 
 cat >"$new/README" <<END || fail "can't write the README"
 The move-to-rear list scheduler (MTR-LS), version $version, for x86-64.
+Commit $revision, $kit.
 
     lib/libmtr.a     the scheduler; of libc it needs these alone: $needs
-    include/mtr.h    its functions for C11 and C++11, with what each does, refuses and leaves unchanged
+    include/mtr.h    its functions for C11 and C++11 or later: what each does, refuses and leaves unchanged; stack, interrupts, locking
+    lib/pkgconfig/   for pkg-config; lib/cmake/: for CMake
     rust/            the crate \`mtr\`: the same with Rust types (no_std), and the declarations in its module raw
+    bin/mtrrun       replays a journal; bin/journal: journals as text, figures and pictures
+    examples/host/   a controller's main loop, in C and in Rust
+    PROVED.md        what was proved, by which theorem, and what is assumed
 
 C, with this folder as vendor/mtr:
 
     cc -Ivendor/mtr/include prog.c -Lvendor/mtr/lib -lmtr
+    cc prog.c \$(PKG_CONFIG_PATH=vendor/mtr/lib/pkgconfig pkg-config --cflags --libs mtr)
 
     #include <mtr.h>
 
-    mtr_scheduler state = mtr_by_value_start(MTR_DEFAULT_THOUSANDTH, MTR_DEFAULT_INTERVAL).state;
-    mtr_reply reply = mtr_by_value_admit(state, 5, 0, 500);
-    state = reply.state;
+    static mtr_scheduler state;
+    mtr_answer answer = mtr_start(&state, MTR_DEFAULT_THOUSANDTH, MTR_DEFAULT_INTERVAL);
+    if (answer == MTR_ACCEPTED)
+        answer = mtr_admit(&state, 5, 0, 500);
+
+CMake, with -DCMAKE_PREFIX_PATH=vendor/mtr (a whole path):
+
+    find_package(mtr $version REQUIRED)
+    target_link_libraries(prog mtr::mtr)
 
 Rust, in Cargo.toml (the build script finds ../lib/libmtr.a):
 
@@ -93,6 +181,12 @@ Rust, in Cargo.toml (the build script finds ../lib/libmtr.a):
 
     let mut scheduler = Scheduler::default();
     scheduler.admit(5, 0, 500)?;
+
+The example host, and its journal replayed:
+
+    cc -std=c11 -O2 -Iinclude examples/host/c/controller.c -Llib -lmtr -o /tmp/controller
+    /tmp/controller 1 /tmp/journal.blocks
+    bin/mtrrun </tmp/journal.blocks
 
 The files are whole if this says OK of each:
 
@@ -112,4 +206,4 @@ if [ -e "$folder" ]; then
 else
     mv "$new" "$folder" || fail "can't move the new folder to $folder"
 fi
-echo "$folder: version $version"
+echo "$folder: version $version, $revision"

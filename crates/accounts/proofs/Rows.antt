@@ -19,7 +19,7 @@ use Rattle.accounts.specs.declared.sort.Key.{Key}
 use Rattle.accounts.specs.declared.sort.Keys.{Keys}
 use Rattle.accounts.specs.declared.roster.Plan.{Plan}
 use Rattle.accounts.specs.Order.{noKey, keysBelow, ordered}
-use Rattle.accounts.specs.Roster.{stateOf, entryOf, rosterOf, rosterRefusal, tableOf}
+use Rattle.accounts.specs.Roster.{threadState, entryOf, rosterOf, rosterRefusal, tableOf}
 use Rattle.accounts.specs.Inner.{Bounded, Sorted, Filled, Planned}
 use Rattle.accounts.proofs.Bounds.{bounded}
 use Rattle.accounts.proofs.Order.{each-ordered, each-at}
@@ -79,7 +79,7 @@ module _ (s : Scheduler) (k : Keys) (h : Sorted s k) where
       }
 
 -- the record that the code makes
-pub entry-is : (s : Scheduler) (n state share : ℕ) (lag : ℤ) → state ≡ stateOf (s .running) n ((threadAt s n) .status) → share ≡ shareOf (s .meter) (threadAt s n)
+pub entry-is : (s : Scheduler) (n state share : ℕ) (lag : ℤ) → state ≡ threadState (s .running) n ((threadAt s n) .status) → share ≡ shareOf (s .meter) (threadAt s n)
     → lag ≡ lagOf (s .meter) (threadAt s n) → _≡_ {A = Entry} (record { number = n; state = state; allotment = (threadAt s n) .allotment; share = share; lag = lag }) (entryOf s n)
 unfolding entryOf allotmentAt
 entry-is s n state share lag a b c = λ i. record { number = n; state = a i; allotment = (threadAt s n) .allotment; share = b i; lag = c i }

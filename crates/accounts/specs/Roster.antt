@@ -13,14 +13,14 @@ use Rattle.accounts.specs.declared.Entry.{Entry}
 use Rattle.accounts.specs.Order.{ordered, keysBelow}
 
 -- "state (0 runnable, 1 blocked, 2 running)", of the running thread's number, the thread's own and its status
-unfoldable pub stateOf : ℕ → ℕ → ℕ → ℕ
-stateOf running n status = cond (eqb running n) 2 (cond (eqb status 2) 1 0)
+unfoldable pub threadState : ℕ → ℕ → ℕ → ℕ
+threadState running n status = cond (eqb running n) 2 (cond (eqb status 2) 1 0)
 
 -- "thread records: number, state .., allotment, lag, share"
 unfoldable pub entryOf : Scheduler → ℕ → Entry
 entryOf s n = record {
   number = n;
-  state = stateOf (s .running) n ((threadAt s n) .status);
+  state = threadState (s .running) n ((threadAt s n) .status);
   allotment = allotmentAt s n;
   share = shareOf (s .meter) (threadAt s n);
   lag = lagOf (s .meter) (threadAt s n);

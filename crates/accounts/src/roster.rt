@@ -6,7 +6,7 @@ use crate::sort::order;
 use scheduler::Scheduler;
 ghost use mathlib.Core.Path.{_≡_};
 ghost use lib.ListN.{length};
-ghost use Rattle.accounts.specs.Roster.{stateOf, rosterRefusal, tableOf};
+ghost use Rattle.accounts.specs.Roster.{threadState, rosterRefusal, tableOf};
 ghost use Rattle.accounts.specs.Inner.{Sorted, Filled, Planned};
 
 const NONE: Entry = Entry {
@@ -26,7 +26,7 @@ struct Plan {
 
 // 0 runnable, 1 blocked, 2 running.
 fn state_of(status: u8, number: u32, running: u32) -> u32
-    ensures { λ r. ⌜ r ≡ stateOf running number status ⌝ }
+    ensures { λ r. ⌜ r ≡ threadState running number status ⌝ }
 {
     if running == number {
         return 2;

@@ -70,13 +70,15 @@ unfolding ahead before without
 ahead-gone x r g g′ apart same [] = omega arith
 ahead-gone x r g g′ apart same (n ∷ l) =
     let ih = ahead-gone x r g g′ apart same l in
-    by (λ b. ahead x g′ (cond b (without r l) (n ∷ without r l)) + cond (cond (eqb n x) false (b || before r x l)) (g r) 0 ≤ cond (eqb n x) 0 (g n + ahead x g l)) (eqb n r)
+    by (λ b. ahead x g′ (cond b (without r l) (n ∷ without r l)) + cond (cond (eqb n x) false (b || before r x l)) (g r) 0
+    ≤ cond (eqb n x) 0 (g n + ahead x g l)) (eqb n r)
     (λ q.
     let e = eqb-true n r q in
     let off : eqb n x ≡ false = ne-eqb n x (λ z. apart (sym e ∙ z)) in
     subst (λ (b : Bool). ahead x g′ (without r l) + cond (cond b false true) (g r) 0 ≤ cond b 0 (g n + ahead x g l)) (sym off)
     (omega (arith, ap g e)))
-    (λ q. by (λ b. cond b 0 (g′ n + ahead x g′ (without r l)) + cond (cond b false (before r x l)) (g r) 0 ≤ cond b 0 (g n + ahead x g l)) (eqb n x)
+    (λ q. by (λ b. cond b 0 (g′ n + ahead x g′ (without r l)) + cond (cond b false (before r x l)) (g r) 0 ≤ cond b 0 (g n + ahead x g l))
+    (eqb n x)
     (λ e. omega arith)
     (λ e. omega (arith, same n (eqb-false n r q))))
 
@@ -146,7 +148,8 @@ sumOf-split x g (n ∷ l) h =
     rest [] = le-refl 0
     rest (k ∷ l) =
         let ih = rest l in
-        by (λ b. cond (not b) (g k) 0 + sumOf (mask (λ n. not (eqb n x)) g) l ≤ g k + sumOf g l) (eqb k x) (λ e. omega arith) (λ e. omega arith)
+        by (λ b. cond (not b) (g k) 0 + sumOf (mask (λ n. not (eqb n x)) g) l ≤ g k + sumOf g l) (eqb k x) (λ e. omega arith)
+        (λ e. omega arith)
 
 -- y stands in the list once
 pub sumOf-none : (y : ℕ) (g : ℕ → ℕ) (l : List ℕ) → T (not (member y l)) → sumOf (mask (λ n. eqb n y) g) l ≡ 0
@@ -173,7 +176,8 @@ pub first-before : (x : ℕ) (p : ℕ → Bool) (l : List ℕ) → T (member x l
 unfolding first member before
 first-before x p [] h t = absurd h
 first-before x p (n ∷ l) h t =
-    by (λ b. T (eqb (cond b n (first p l)) x || cond (eqb n x) false (eqb n (cond b n (first p l)) || before (cond b n (first p l)) x l))) (p n)
+    by (λ b. T (eqb (cond b n (first p l)) x || cond (eqb n x) false (eqb n (cond b n (first p l)) || before (cond b n (first p l)) x l)))
+    (p n)
     (λ e. by (λ b. T (b || cond b false (eqb n n || before n x l))) (eqb n x) (λ q. tt) (λ q. rw (eq-eqb n n refl) tt))
     (λ e.
     let off : eqb n x ≡ false = ne-eqb n x (λ q. clash (p n) (ap p q ∙ is (p x) t) e) in
@@ -199,7 +203,8 @@ unfolding without member distinct
 length-without n [] d h = absurd h
 length-without n (k ∷ l) d h =
     (by (λ b. T (b || member n l) → suc (length (cond b (without n l) (k ∷ without n l))) ≡ suc (length l)) (eqb k n)
-    (λ e t. ap (λ (z : List ℕ). suc (length z)) (without-none n l (subst (λ (j : ℕ). T (not (member j l))) (eqb-true k n e) (and-l (not (member k l)) (distinct l) d))))
+    (λ e t. ap (λ (z : List ℕ). suc (length z))
+    (without-none n l (subst (λ (j : ℕ). T (not (member j l))) (eqb-true k n e) (and-l (not (member k l)) (distinct l) d))))
     (λ e t. ap suc (length-without n l (and-r (not (member k l)) (distinct l) d) t)))
     h
 
@@ -214,7 +219,8 @@ everyOf-at p (k ∷ l) t n h =
 
 -- Tests and places.
 
-pub everyOf-without : (p q : ℕ → Bool) (n : ℕ) (l : List ℕ) → ((k : ℕ) → (k ≡ n → ⊥) → T (p k) → T (q k)) → T (everyOf p l) → T (everyOf q (without n l))
+pub everyOf-without : (p q : ℕ → Bool) (n : ℕ) (l : List ℕ) → ((k : ℕ) → (k ≡ n → ⊥) → T (p k) → T (q k)) → T (everyOf p l)
+    → T (everyOf q (without n l))
 unfolding everyOf without
 everyOf-without p q n [] f t = tt
 everyOf-without p q n (k ∷ l) f t =
@@ -262,7 +268,8 @@ pigeons (suc k) l d t =
       arith,
       pigeons k l d
           (everyOf-map (λ n. ltb n (suc k)) (λ n. ltb n k) l
-          (λ n u v. lt→ltb n k (below n (λ z. clash (member k l) (subst (λ (j : ℕ). member j l ≡ true) z (is (member n l) u)) e) (ltb→lt n (suc k) v))) t),
+          (λ n u v. lt→ltb n k (below n (λ z. clash (member k l) (subst (λ (j : ℕ). member j l ≡ true) z (is (member n l) u)) e)
+          (ltb→lt n (suc k) v))) t),
     ))
     refl
   where
@@ -274,7 +281,8 @@ pub ahead-none : (x y : ℕ) (g : ℕ → ℕ) (l : List ℕ) → before y x l �
 unfolding ahead before
 ahead-none x y g [] h = refl
 ahead-none x y g (n ∷ l) h =
-    (elim (eqb n x) as (λ b. cond b false (eqb n y || before y x l) ≡ false → cond b 0 (cond (eqb n y) (g n) 0 + ahead x (mask (λ n. eqb n y) g) l) ≡ 0) [
+    (elim (eqb n x) as (λ b. cond b false (eqb n y || before y x l) ≡ false
+    → cond b 0 (cond (eqb n y) (g n) 0 + ahead x (mask (λ n. eqb n y) g) l) ≡ 0) [
       | true ↦ λ _. refl
       | false ↦ λ t.
           (elim (eqb n y) as (λ b. (b || before y x l) ≡ false → cond b (g n) 0 + ahead x (mask (λ n. eqb n y) g) l ≡ 0)
@@ -297,7 +305,8 @@ without-at n (j ∷ l) k a b =
 pub everyOf-snoc : (p : ℕ → Bool) (n : ℕ) (l : List ℕ) → T (everyOf p l) → T (p n) → T (everyOf p (l ++ n ∷ []))
 unfolding everyOf
 everyOf-snoc p n [] t u = both (p n) true u tt
-everyOf-snoc p n (j ∷ l) t u = both (p j) (everyOf p (l ++ n ∷ [])) (and-l (p j) (everyOf p l) t) (everyOf-snoc p n l (and-r (p j) (everyOf p l) t) u)
+everyOf-snoc p n (j ∷ l) t u =
+    both (p j) (everyOf p (l ++ n ∷ [])) (and-l (p j) (everyOf p l) t) (everyOf-snoc p n l (and-r (p j) (everyOf p l) t) u)
 
 pub member-snoc : (x n : ℕ) (l : List ℕ) → member x (l ++ n ∷ []) ≡ (member x l || eqb n x)
 unfolding member
@@ -334,7 +343,8 @@ pub first-found : (p : ℕ → Bool) (l : List ℕ) → (first p l ≡ 64 → �
 unfolding first member
 first-found p [] ne = absurd (ne refl)
 first-found p (n ∷ l) ne =
-    (by (λ b. (cond b n (first p l) ≡ 64 → ⊥) → T (eqb n (cond b n (first p l)) || member (cond b n (first p l)) l) × T (p (cond b n (first p l)))) (p n)
+    (by (λ b. (cond b n (first p l) ≡ 64 → ⊥) → T (eqb n (cond b n (first p l)) || member (cond b n (first p l)) l)
+    × T (p (cond b n (first p l)))) (p n)
     (λ e _. (rw (eq-eqb n n refl) tt, holds (p n) e))
     (λ e u.
     let ih = first-found p l u in

@@ -93,7 +93,8 @@ sum-update F F′ n same (suc k) l =
     past (suc j) u = omega (arith, past j (omega arith), same j (λ z. omega arith))
 
 -- a list of distinct numbers below k
-pub sumOf-below : (g : ℕ → ℕ) (k : ℕ) (l : List ℕ) → T (distinct l) → T (everyOf (λ n. ltb n k) l) → sumOf g l ≤ sumBelow (λ n. cond (member n l) (g n) 0) k
+pub sumOf-below : (g : ℕ → ℕ) (k : ℕ) (l : List ℕ) → T (distinct l) → T (everyOf (λ n. ltb n k) l)
+    → sumOf g l ≤ sumBelow (λ n. cond (member n l) (g n) 0) k
 unfolding sumOf distinct everyOf member
 sumOf-below g k [] d b = omega arith
 sumOf-below g k (n ∷ l) d b =
@@ -109,7 +110,8 @@ sumOf-below g k (n ∷ l) d b =
         by (λ c. eqb n j ≡ c → cond c (g n) 0 + cond (member j l) (g j) 0 ≤ cond (c || member j l) (g j) 0) (eqb n j)
         (λ e _.
         let z = eqb-true n j e in
-        let out : member j l ≡ false = isn't (member j l) (subst (λ (i : ℕ). T (not (member i l))) z (and-l (not (member n l)) (distinct l) d)) in
+        let out : member j l ≡ false =
+        isn't (member j l) (subst (λ (i : ℕ). T (not (member i l))) z (and-l (not (member n l)) (distinct l) d)) in
         rw out (omega (arith, ap g z)))
         (λ e _. omega arith)
         refl

@@ -1,5 +1,5 @@
--- Demand 3, the share guarantee: what a thread that stays runnable is owed over a stretch, and what a second thread may take beside it.
--- Both follow from the induction of Share, once with every other thread counted at the rate 1000 − f, once with the second thread alone
+-- The share guarantee, RULE 9.6: what a thread that stays runnable is owed over a stretch, and what a second thread may take beside it.
+-- Both follow from the induction of Share.Stretch, once with every other thread counted at the rate 1000 − f, once with the second thread alone
 -- at the rate of its reservation; the potential of a sound state is at most f × h × m + f × P + h × f × m.
 use Prim.Native.Nat.{ℕ, _+_, _-_, _*_, min, _≤_}
 use mathlib.Core.Path.{_≡_, refl, ap, subst}
@@ -13,10 +13,10 @@ use Rattle.base.specs.Lists.{member, first}
 use Rattle.base.proofs.Bools.{by, and-l, and-r, is}
 use Rattle.base.proofs.Lists.{sumOf, ahead, before, mask, ahead-sumOf, sumOf-le, sumOf-split, sumOf-once, ahead-none}
 use Rattle.scheduler.specs.declared.Scheduler.{Scheduler}
-use Rattle.scheduler.specs.State.{admittedAt, runnableAt, reservationAt, allotmentAt, listed}
+use Rattle.scheduler.specs.State.{admittedAt, runnableAt, reservationAt, allotmentAt, listed, sliceAt}
 use Rattle.scheduler.specs.Sound.{sound}
 use Rattle.scheduler.specs.Refusals.{Call}
-use Rattle.scheduler.specs.Stretch.{Event, trace, final, accepted, ticksOf, named, ticksIn, allTicks, ticksBy, anyone, throughout, keepsRunnable, keepsAdmitted, Protected, Present, Shares}
+use Rattle.scheduler.specs.Stretch.{Event, trace, final, accepted, ticksOf, named, ticksIn, allTicks, ticksBy, anyone, throughout, keepsRunnable, keepsAdmitted, Protected, Present, Owed, Second}
 use Rattle.scheduler.proofs.Facts.{Facts, facts, member-admitted, below-quantum, below-whole}
 use Rattle.scheduler.proofs.Share.Gauge.{gauge}
 use Rattle.scheduler.proofs.Share.Step.{weight, potential, Guarded}
@@ -70,7 +70,7 @@ cond-at-most false true n = le-refl n
 cond-at-most false false n = omega arith
 
 weight-all : (s : Scheduler) → Facts s → (sel : ℕ → Bool) (x h : ℕ) → sumOf (mask sel (reservationAt s)) (listed s) ≤ h → weight sel x s ≤ h * s .settings .thousandth + s .settings .interval
-unfolding weight gauge
+unfolding weight gauge sliceAt
 weight-all s k sel x h sum =
     let r = s .running in
     let c = cond-at-most (eqb r 64 || before r x (listed s)) (sel r) (min (allotmentAt s r) (s .settings .interval)) in
@@ -78,7 +78,7 @@ weight-all s k sel x h sum =
 
 -- one thread is before x, or runs behind it
 weight-one : (s : Scheduler) → Facts s → (x y g : ℕ) → T (admittedAt s y) → reservationAt s y ≡ g → weight (λ n. eqb n y) x s ≤ g * s .settings .thousandth
-unfolding weight gauge
+unfolding weight gauge sliceAt
 weight-one s k x y g adm is-g =
     let l = listed s in
     let al = allotmentAt s in
@@ -116,14 +116,10 @@ others : (x f : ℕ) (s : Scheduler) → T (sound s) → Guarded f x s → Reser
 others x f s t k r =
     omega (arith, listed-most s (facts s t), sumOf-split x (reservationAt s) (listed s) (((facts s t) .thread x (k .admitted)) .in-list), k .reserved)
 
-pub share : (s : Scheduler) → T (sound s) → (cs : List Call) (x : ℕ) → T (admittedAt s x) → T (runnableAt s x)
-    → T (throughout (keepsRunnable x) (s .running) (trace s cs))
-    → reservationAt s x * allTicks (s .running) (trace s cs)
-    ≤ 1000 * ticksBy x (s .running) (trace s cs)
-    + 2 * reservationAt s x * (1000 - reservationAt s x) * s .settings .thousandth
-    + reservationAt s x * s .settings .interval
+-- What x is owed: every other thread counts, at the rate 1000 − f.
+pub owed : (s : Scheduler) → T (sound s) → (cs : List Call) (x : ℕ) → Protected s cs x → Owed s cs x
 unfolding allTicks ticksBy potential Bound
-share s t cs x adm run keep =
+owed s t cs x px =
     let f = reservationAt s x in
     let h = 1000 - f in
     let m = s .settings .thousandth in
@@ -132,26 +128,27 @@ share s t cs x adm run keep =
     let es = trace s cs in
     let last = s .running in
     let k = facts s t in
-    let small = below-whole s k x adm in
-    let guard : Guarded f x s = record { admitted = adm; runnable = run; reserved = refl } in
-    let res : Reserved f x s = record { admitted = adm; reserved = refl } in
-    let owed : f * ticksIn sel last es + potential f h sel x (final s cs) ≤ potential f h sel x s + h * ticksIn (λ n. eqb n x) last es =
-    stretch f f h sel x x (ap not (eq-eqb x x refl)) (others x f) cs s last (λ _. refl) guard res keep (throughout-map (keepsRunnable x) (keepsAdmitted x) (runnable-admitted x) last es keep) in
+    let small = below-whole s k x (px .admitted) in
+    let guard : Guarded f x s = record { admitted = px .admitted; runnable = px .runnable; reserved = refl } in
+    let res : Reserved f x s = record { admitted = px .admitted; reserved = refl } in
+    let stays : T (throughout (keepsAdmitted x) last es) =
+    throughout-map (keepsRunnable x) (keepsAdmitted x) (runnable-admitted x) last es (px .keeps) in
+    let sums : f * ticksIn sel last es + potential f h sel x (final s cs) ≤ potential f h sel x s + h * ticksIn (λ n. eqb n x) last es =
+    stretch f f h sel x x (ap not (eq-eqb x x refl)) (others x f) cs s last (λ _. refl) guard res (px .keeps) stays in
     let w = mul-le-mul-left f (weight-all s k sel x h (others x f s t guard res)) in
-    owed-all f h m p (ticksIn anyone last es) (ticksIn sel last es) (ticksIn (λ n. eqb n x) last es) (weight sel x s) (f * m - allotmentAt s x)
-    (omega arith) (ticks-split x last es) (sub-le (f * m) (allotmentAt s x)) (omega (arith, owed)) w
+    owed-all f h m p (ticksIn anyone last es) (ticksIn sel last es) (ticksIn (λ n. eqb n x) last es) (weight sel x s)
+    (f * m - allotmentAt s x) (omega arith) (ticks-split x last es) (sub-le (f * m) (allotmentAt s x)) (omega (arith, sums)) w
 
--- the limit on a second thread needs no sum over the others
-second : (y g : ℕ) (s : Scheduler) → T (sound s) → Reserved g y s → sumOf (mask (λ n. eqb n y) (reservationAt s)) (listed s) ≤ g
-second y g s t r =
-    subst (λ (z : ℕ). sumOf (mask (λ n. eqb n y) (reservationAt s)) (listed s) ≤ z) (r .reserved) (sumOf-once y (reservationAt s) (listed s) ((facts s t) .once))
+-- The limit on a second thread: y alone counts, at the rate of its reservation. It needs no sum over the others.
 
-share-apart : (s : Scheduler) → T (sound s) → (cs : List Call) (x y : ℕ) → (x ≡ y → ⊥) → T (admittedAt s x) → T (runnableAt s x) → T (admittedAt s y)
-    → T (throughout (keepsRunnable x) (s .running) (trace s cs)) → T (throughout (keepsAdmitted y) (s .running) (trace s cs))
-    → reservationAt s x * ticksBy y (s .running) (trace s cs)
-    ≤ reservationAt s y * ticksBy x (s .running) (trace s cs) + 2 * reservationAt s x * reservationAt s y * s .settings .thousandth
+alone : (y g : ℕ) (s : Scheduler) → T (sound s) → Reserved g y s → sumOf (mask (λ n. eqb n y) (reservationAt s)) (listed s) ≤ g
+alone y g s t r =
+    subst (λ (z : ℕ). sumOf (mask (λ n. eqb n y) (reservationAt s)) (listed s) ≤ z) (r .reserved)
+    (sumOf-once y (reservationAt s) (listed s) ((facts s t) .once))
+
+second-apart : (s : Scheduler) → T (sound s) → (cs : List Call) (x y : ℕ) → (x ≡ y → ⊥) → Protected s cs x → Present s cs y → Second s cs x y
 unfolding ticksBy potential Bound
-share-apart s t cs x y apart adm run adm′ keep stays =
+second-apart s t cs x y apart px py =
     let f = reservationAt s x in
     let g = reservationAt s y in
     let m = s .settings .thousandth in
@@ -159,29 +156,17 @@ share-apart s t cs x y apart adm run adm′ keep stays =
     let es = trace s cs in
     let last = s .running in
     let k = facts s t in
-    let guard : Guarded f x s = record { admitted = adm; runnable = run; reserved = refl } in
-    let res : Reserved g y s = record { admitted = adm′; reserved = refl } in
-    let owed : f * ticksIn sel last es + potential f g sel x (final s cs) ≤ potential f g sel x s + g * ticksIn (λ n. eqb n x) last es =
-    stretch f g g sel x y (ne-eqb x y apart) (λ s t _ r. second y g s t r) cs s last (λ _. refl) guard res keep stays in
-    let w = mul-le-mul-left f (weight-one s k x y g adm′ refl) in
-    owed-one f g m (ticksIn sel last es) (ticksIn (λ n. eqb n x) last es) (weight sel x s) (f * m - allotmentAt s x) (sub-le (f * m) (allotmentAt s x)) (omega (arith, owed)) w
+    let guard : Guarded f x s = record { admitted = px .admitted; runnable = px .runnable; reserved = refl } in
+    let res : Reserved g y s = record { admitted = py .admitted; reserved = refl } in
+    let sums : f * ticksIn sel last es + potential f g sel x (final s cs) ≤ potential f g sel x s + g * ticksIn (λ n. eqb n x) last es =
+    stretch f g g sel x y (ne-eqb x y apart) (λ s t _ r. alone y g s t r) cs s last (λ _. refl) guard res (px .keeps) (py .keeps) in
+    let w = mul-le-mul-left f (weight-one s k x y g (py .admitted) refl) in
+    owed-one f g m (ticksIn sel last es) (ticksIn (λ n. eqb n x) last es) (weight sel x s) (f * m - allotmentAt s x)
+    (sub-le (f * m) (allotmentAt s x)) (omega (arith, sums)) w
 
-pub share-second : (s : Scheduler) → T (sound s) → (cs : List Call) (x y : ℕ) → T (admittedAt s x) → T (runnableAt s x) → T (admittedAt s y)
-    → T (throughout (keepsRunnable x) (s .running) (trace s cs)) → T (throughout (keepsAdmitted y) (s .running) (trace s cs))
-    → reservationAt s x * ticksBy y (s .running) (trace s cs)
-    ≤ reservationAt s y * ticksBy x (s .running) (trace s cs) + 2 * reservationAt s x * reservationAt s y * s .settings .thousandth
-share-second s t cs x y adm run adm′ keep stays =
-    by (λ b. eqb x y ≡ b → Goal) (eqb x y)
-    (λ e _. subst (λ (z : ℕ). reservationAt s x * ticksBy z (s .running) (trace s cs) ≤ reservationAt s z * ticksBy x (s .running) (trace s cs) + 2 * reservationAt s x * reservationAt s z * s .settings .thousandth) (eqb-true x y e) (omega arith))
-    (λ e _. share-apart s t cs x y (eqb-false x y e) adm run adm′ keep stays)
+pub second : (s : Scheduler) → T (sound s) → (cs : List Call) (x y : ℕ) → Protected s cs x → Present s cs y → Second s cs x y
+second s t cs x y px py =
+    by (λ b. eqb x y ≡ b → Second s cs x y) (eqb x y)
+    (λ e _. subst (λ (z : ℕ). Second s cs x z) (eqb-true x y e) (omega arith))
+    (λ e _. second-apart s t cs x y (eqb-false x y e) px py)
     refl
-  where
-    Goal : Type 0
-    Goal = reservationAt s x * ticksBy y (s .running) (trace s cs) ≤ reservationAt s y * ticksBy x (s .running) (trace s cs) + 2 * reservationAt s x * reservationAt s y * s .settings .thousandth
-
--- Demand 3, for any sound state and any list of calls
-pub guarantee : (s : Scheduler) → T (sound s) → (cs : List Call) (x y : ℕ) → Protected s cs x → Present s cs y → Shares s cs x y
-guarantee s t cs x y px py = record {
-  owed = share s t cs x (px .admitted) (px .runnable) (px .keeps);
-  second = share-second s t cs x y (px .admitted) (px .runnable) (py .admitted) (px .keeps) (py .keeps);
-}

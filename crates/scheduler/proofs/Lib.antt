@@ -1,9 +1,11 @@
 pub mod Facts
 pub mod Passed
+pub mod Steps
 pub mod Tree
 pub mod Guarantee
 pub mod Preserved
 pub mod ListRule
+pub mod Computes
 pub mod Example
 pub mod Share
 pub mod Soundness

@@ -23,17 +23,8 @@ use Rattle.scheduler.specs.Rule.{isDispatch, accept, refuse, step}
 use Rattle.scheduler.specs.Stretch.{accepted}
 use Rattle.scheduler.proofs.Facts.{Facts, facts, in-threads, member-admitted, fits, take-rear, take-off, room, listed-join, thread-same, unlisted}
 use Rattle.scheduler.proofs.Passed.{passes, admit-passed, remove-passed, wake-passed, report-passed, reported-cases}
-use Rattle.scheduler.proofs.Share.Step.{woken-allotment, charged-left}
+use Rattle.scheduler.proofs.Steps.{step-state, refused-state, woken-allotment, charged-left}
 use Rattle.scheduler.specs.Accounts.{lagOf}
-
--- the state after a call, accepted or refused
-pub step-state : (c : Call) (s : Scheduler) → refusal c s ≡ 0 → step c s ≡ accept c s
-unfolding step
-step-state c s e = rw e
-
-pub refused-state : (c : Call) (s : Scheduler) → (refusal c s ≡ 0 → ⊥) → step c s ≡ refuse (refusal c s) s
-unfolding step
-refused-state c s ne = rw (ne-eqb (refusal c s) 0 ne)
 
 -- the thread that a call puts into the list, takes off it or may move, or 64
 unfoldable pub mover : Call → Scheduler → ℕ

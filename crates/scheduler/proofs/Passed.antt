@@ -1,6 +1,7 @@
 -- What the checks of an accepted call say, call by call; and the three ways a report can end.
 use Prim.Native.Nat.{ℕ, _≤_, _<_}
 use mathlib.Core.Path.{_≡_, sym}
+use mathlib.Core.List.{[]}
 use mathlib.Core.Bool.{true, false, not, cond, _&&_, _||_}
 use native.Mathlib.Omega.{arith}
 use lib.Dec.{T, ltb, leb, eqb, lit<, leb→le}
@@ -12,7 +13,7 @@ use Rattle.scheduler.specs.declared.Thread.{Thread}
 use Rattle.scheduler.specs.declared.Scheduler.{Scheduler}
 use Rattle.scheduler.specs.State.{threadAt, admittedAt, openAt, sliceAt}
 use Rattle.scheduler.specs.Sound.{threadIn, childOf, sound}
-use Rattle.scheduler.specs.Refusals.{Call, openGroup, closeGroup, admit, remove, wake, dispatch, report, free, inUse, checks, refusal}
+use Rattle.scheduler.specs.Refusals.{Call, openGroup, closeGroup, admit, remove, wake, dispatch, report, free, inUse, checks, refusal, startRefusal}
 use Rattle.scheduler.specs.Effects.{toRear, renewed, charged, exited, reported}
 use Rattle.scheduler.specs.Stretch.{accepted}
 use Rattle.scheduler.proofs.Facts.{peel}
@@ -159,3 +160,12 @@ reported-cases P r reason used s a b c =
 pub not-used-up : (reason used : ℕ) (t : Thread) → renewed reason used t ≡ false → used < t .allotment
 unfolding renewed
 not-used-up reason used t e = leb-false (t .allotment) used (or-false-r (eqb reason 2) (leb (t .allotment) used) e)
+
+-- an accepted start
+pub start-passed : (m p : ℕ) → startRefusal m p ≡ 0 → T (within 1 1000 m) × T (within 1 1000000 p)
+unfolding startRefusal
+start-passed m p e =
+    let c = peel (not (within 1 1000 m) || not (within 1 1000000 p) ⇒ 1) [] (lit< tt) e in (
+      holds (within 1 1000 m) (not-false (within 1 1000 m) (or-false-l (not (within 1 1000 m)) (not (within 1 1000000 p)) (c .0))),
+      holds (within 1 1000000 p) (not-false (within 1 1000000 p) (or-false-r (not (within 1 1000 m)) (not (within 1 1000000 p)) (c .0))),
+    )

@@ -21,10 +21,10 @@ use Rattle.scheduler.specs.Effects.{effect, started, unstarted}
 use Rattle.scheduler.specs.Rule.{accept, refuse, step, startReply}
 use Rattle.scheduler.specs.Stretch.{accepted}
 use Rattle.scheduler.proofs.Facts.{GroupFacts, Facts, facts, sound-of, open-small, carries, peel}
-use Rattle.scheduler.proofs.Passed.{passes, remove-passed, wake-passed, report-passed, admit-ok, OpenOk, open-ok, CloseOk, close-ok, dispatch-early}
+use Rattle.scheduler.proofs.Passed.{passes, remove-passed, wake-passed, report-passed, admit-ok, OpenOk, open-ok, CloseOk, close-ok, dispatch-early, start-passed}
 use Rattle.scheduler.proofs.Tree.{carried}
 use Rattle.scheduler.proofs.Soundness.Calls.{wake-facts, remove-facts, report-facts, dispatch-facts, admit-facts}
-use Rattle.scheduler.proofs.ListRule.{step-state, refused-state}
+use Rattle.scheduler.proofs.Steps.{step-state, refused-state}
 
 -- what group i adds to the load of group g
 abbrev ceilingOf : ℕ → Group → ℕ → ℕ
@@ -258,11 +258,6 @@ preserved c s e = sound-of (effect c s) (go c e)
         let c = report-passed s reason used (ok .1) in
         report-kept s (facts s (ok .0)) reason used (c .0) (c .1)
 
--- A refused call returns the state it was given.
-pub refused-same : (c : Call) (s : Scheduler) → (refusal c s ≡ 0 → ⊥) → (step c s) .state ≡ s
-unfolding refuse
-refused-same c s ne = rw (refused-state c s ne)
-
 -- So a sound state stays sound through every call, accepted or refused.
 pub stays-sound : (c : Call) (s : Scheduler) → T (sound s) → T (sound ((step c s) .state))
 unfolding accept refuse
@@ -272,14 +267,6 @@ stays-sound c s t =
     (λ q. rw (refused-state c s (eqb-false (refusal c s) 0 q)) t)
 
 -- Start.
-
-pub start-passed : (m p : ℕ) → startRefusal m p ≡ 0 → T (within 1 1000 m) × T (within 1 1000000 p)
-unfolding startRefusal
-start-passed m p e =
-    let c = peel (not (within 1 1000 m) || not (within 1 1000000 p) ⇒ 1) [] (lit< tt) e in (
-      holds (within 1 1000 m) (not-false (within 1 1000 m) (or-false-l (not (within 1 1000 m)) (not (within 1 1000000 p)) (c .0))),
-      holds (within 1 1000000 p) (not-false (within 1 1000000 p) (or-false-r (not (within 1 1000 m)) (not (within 1 1000000 p)) (c .0))),
-    )
 
 -- everything but the settings is computed
 pub started-sound : (m p : ℕ) → T (within 1 1000 m) → T (within 1 1000000 p) → T (sound (started m p))

@@ -12,14 +12,14 @@ use Rattle.scheduler.specs.Rule.{Reply, Mapped}
 use Rattle.scheduler.specs.Subtree.{Subtree}
 
 -- answer, thread, slice, threads before it
-unfoldable pub lineOf : Answer → Scheduler → Reply
-lineOf Accepted s = record { answer = 0; thread = 0; slice = 0; before = 0; state = s }
-lineOf (Refused k) s = record { answer = k; thread = 0; slice = 0; before = 0; state = s }
-lineOf (Idle n) s = record { answer = 0; thread = 64; slice = 0; before = n; state = s }
-lineOf (Run t a n) s = record { answer = 0; thread = t; slice = a; before = n; state = s }
+unfoldable pub numbersOf : Answer → Scheduler → Reply
+numbersOf Accepted s = record { answer = 0; thread = 0; slice = 0; before = 0; state = s }
+numbersOf (Refused k) s = record { answer = k; thread = 0; slice = 0; before = 0; state = s }
+numbersOf (Idle n) s = record { answer = 0; thread = 64; slice = 0; before = n; state = s }
+numbersOf (Run t a n) s = record { answer = 0; thread = t; slice = a; before = n; state = s }
 
 unfoldable pub replyOf : Answered → Reply
-replyOf r = lineOf (r .answer) (r .state)
+replyOf r = numbersOf (r .answer) (r .state)
 
 -- 0 and the reservation, or the refusal
 unfoldable pub mappedOf : Mapping → Mapped

@@ -81,7 +81,7 @@ impl Scheduler {
     pub const METER_MOST: u64 = 10000001000000;
 }
 
-// What a call answers. `lineOf` sets out the paper's numbers for each case.
+// What a call answers. `numbersOf` sets out the paper's numbers for each case.
 pub enum Answer {
     Accepted,
     Refused(u32),

@@ -2,8 +2,8 @@
  * A controller's main loop on a virtual clock, in C: readout, pumps, the lab's viewer and an exporter that waits for a
  * server whose replies come sooner or later. Every call of the scheduler is journalled into event blocks.
  *
- *     cc -std=c11 -O2 -Iinclude examples/host/c/controller.c target/staticlib/libabi.a -o controller
- *     ./controller SEED JOURNAL [MILLISECONDS]
+ *     cc -std=c11 -O2 -Iinclude examples/host/c/controller.c target/staticlib/libabi.a -o target/controller
+ *     target/controller SEED JOURNAL [MILLISECONDS]
  *
  * Standard output has a line for each call, as mtrrun prints it for the call's record (number, answer, thread, slice,
  * threads before it), and at the end the roster. `target/bin/mtrrun < JOURNAL` prints the same lines but for the roster.
@@ -38,92 +38,98 @@ static _Noreturn void fail(const char *what)
 static void flush_block(host *h)
 {
     uint8_t area[MTR_BLOCK_BYTES];
-    if (mtr_by_value_write_block(area, sizeof area, h->block, h->list, h->count) != MTR_ACCEPTED)
-        fail("a record has no form");
+    const mtr_answer answer = mtr_write_block(area, sizeof area, h->block, &h->list, h->count);
+    if (answer != MTR_ACCEPTED)
+        fail(mtr_answer_text(answer));
     if (fwrite(area, sizeof area, 1, h->journal) != 1)
         fail("the journal cannot be written");
     h->block += 1;
     h->count = 0;
 }
 
-/* The call that a record stands for. */
-static mtr_reply make(mtr_scheduler state, mtr_record r)
+/* Makes the call that a record stands for. Only a dispatch fills in the run. */
+static mtr_answer make(mtr_scheduler *state, const mtr_record *r, mtr_run *run)
 {
-    switch (r.kind) {
+    switch (r->kind) {
     case MTR_KIND_OPEN:
-        return mtr_by_value_open(state, r.subject, r.group, r.amount);
+        return mtr_open(state, r->subject, r->group, r->amount);
     case MTR_KIND_CLOSE:
-        return mtr_by_value_close(state, r.subject);
+        return mtr_close(state, r->subject);
     case MTR_KIND_ADMIT:
-        return mtr_by_value_admit(state, r.subject, r.group, r.amount);
+        return mtr_admit(state, r->subject, r->group, r->amount);
     case MTR_KIND_REMOVE:
-        return mtr_by_value_remove(state, r.subject);
+        return mtr_remove(state, r->subject);
     case MTR_KIND_WAKE:
-        return mtr_by_value_wake(state, r.subject);
+        return mtr_wake(state, r->subject);
     case MTR_KIND_DISPATCH:
-        return mtr_by_value_dispatch(state);
+        return mtr_dispatch(state, run);
     case MTR_KIND_REPORT:
-        return mtr_by_value_report(state, r.reason, r.ticks);
+        return mtr_report(state, (mtr_reason)r->reason, r->ticks);
     default:
-        return mtr_by_value_start(r.amount, r.ticks);
+        return mtr_start(state, r->amount, r->ticks);
     }
 }
 
 /* Makes a call, journals it and prints its answer. */
-static mtr_reply call(host *h, mtr_record r)
+static mtr_answer call(host *h, mtr_record r, mtr_run *run)
 {
-    mtr_reply reply = make(h->state, r);
-    /* A refused call hands the same state back; a refused start has none to hand back. */
-    if (r.kind != MTR_KIND_START || reply.answer == MTR_ACCEPTED)
-        h->state = reply.state;
+    *run = (mtr_run){ 0, 0, 0 };
+    const mtr_answer answer = make(&h->state, &r, run);
     h->list.records[h->count] = r;
     h->count += 1;
     if (h->count == MTR_RECORDS)
         flush_block(h);
-    printf("%" PRIu64 " %" PRIu32 " %" PRIu32 " %" PRIu32 " %" PRIu32 "\n", h->record, reply.answer, reply.thread,
-        reply.slice, reply.before);
+    printf("%" PRIu64 " %u %" PRIu32 " %" PRIu32 " %" PRIu32 "\n", h->record, (unsigned)answer, run->thread, run->slice,
+        run->before);
     h->record += 1;
-    return reply;
+    return answer;
+}
+
+/* A call that has nothing to tell but its answer, which is printed. */
+static void tell(host *h, mtr_record r)
+{
+    mtr_run none;
+    call(h, r, &none);
 }
 
 static void start(host *h, uint16_t thousandth, uint32_t interval)
 {
-    call(h, (mtr_record){ .kind = MTR_KIND_START, .amount = thousandth, .ticks = interval });
+    tell(h, (mtr_record){ .kind = MTR_KIND_START, .amount = thousandth, .ticks = interval });
 }
 
 static void open_group(host *h, uint8_t group, uint8_t parent, uint16_t ceiling)
 {
-    call(h, (mtr_record){ .kind = MTR_KIND_OPEN, .subject = group, .group = parent, .amount = ceiling });
+    tell(h, (mtr_record){ .kind = MTR_KIND_OPEN, .subject = group, .group = parent, .amount = ceiling });
 }
 
 static void close_group(host *h, uint8_t group)
 {
-    call(h, (mtr_record){ .kind = MTR_KIND_CLOSE, .subject = group });
+    tell(h, (mtr_record){ .kind = MTR_KIND_CLOSE, .subject = group });
 }
 
 static void admit(host *h, uint8_t thread, uint8_t group, uint16_t reservation)
 {
-    call(h, (mtr_record){ .kind = MTR_KIND_ADMIT, .subject = thread, .group = group, .amount = reservation });
+    tell(h, (mtr_record){ .kind = MTR_KIND_ADMIT, .subject = thread, .group = group, .amount = reservation });
 }
 
 static void remove_thread(host *h, uint8_t thread)
 {
-    call(h, (mtr_record){ .kind = MTR_KIND_REMOVE, .subject = thread });
+    tell(h, (mtr_record){ .kind = MTR_KIND_REMOVE, .subject = thread });
 }
 
 static void wake(host *h, uint8_t thread)
 {
-    call(h, (mtr_record){ .kind = MTR_KIND_WAKE, .subject = thread });
+    tell(h, (mtr_record){ .kind = MTR_KIND_WAKE, .subject = thread });
 }
 
-static mtr_reply dispatch(host *h)
+static mtr_answer dispatch(host *h, mtr_run *run)
 {
-    return call(h, (mtr_record){ .kind = MTR_KIND_DISPATCH });
+    return call(h, (mtr_record){ .kind = MTR_KIND_DISPATCH }, run);
 }
 
 static void report(host *h, uint8_t reason, uint32_t used)
 {
-    call(h, (mtr_record){ .kind = MTR_KIND_REPORT, .reason = reason, .ticks = used });
+    tell(h, (mtr_record){ .kind = MTR_KIND_REPORT, .reason = reason, .ticks = used });
 }
 
 /* ---- the simulated threads ---- */
@@ -191,7 +197,8 @@ static void boot(host *h, world *w)
 {
     start(h, 0, MTR_DEFAULT_INTERVAL);
     start(h, MTR_DEFAULT_THOUSANDTH, MTR_DEFAULT_INTERVAL);
-    dispatch(h);
+    mtr_run idle;
+    dispatch(h, &idle);
     report(h, MTR_REASON_TICK, 1);
     open_group(h, LAB, 2, LAB_CEILING);
     open_group(h, LAB, 0, LAB_CEILING);
@@ -219,7 +226,8 @@ static void reconnect(host *h, world *w)
 /* What a confused driver does while a thread runs: all of it is refused. */
 static void confuse(host *h, uint8_t running, uint32_t slice)
 {
-    dispatch(h);
+    mtr_run none;
+    dispatch(h, &none);
     wake(h, running);
     remove_thread(h, running);
     report(h, MTR_REASON_EXIT + 1, 0);
@@ -277,9 +285,10 @@ static void simulate(host *h, world *w, uint64_t end)
                 w->due[n] = NEVER;
             }
         }
-        mtr_reply choice = dispatch(h);
-        if (choice.answer != MTR_ACCEPTED)
-            fail("a dispatch is refused");
+        mtr_run choice;
+        const mtr_answer answer = dispatch(h, &choice);
+        if (answer != MTR_ACCEPTED)
+            fail(mtr_answer_text(answer));
         if (choice.thread == MTR_NO_THREAD) {
             /* Readout is always runnable, so this host is never idle after power-up. Others sleep until the next wake. */
             w->clock = next_due(w);
@@ -294,11 +303,17 @@ static void simulate(host *h, world *w, uint64_t end)
 
 static void print_roster(const host *h)
 {
-    static const char *const states[] = { "runnable", "blocked", "running" };
+    static const char *const states[] = {
+        [MTR_ROSTER_RUNNABLE] = "runnable",
+        [MTR_ROSTER_BLOCKED] = "blocked",
+        [MTR_ROSTER_RUNNING] = "running",
+    };
     mtr_entry table[MTR_THREADS];
-    if (mtr_by_value_roster(h->state, table, MTR_THREADS) != MTR_ACCEPTED)
-        fail("the roster is refused");
-    for (uint32_t i = 0; i < h->state.count; i++)
+    size_t filled;
+    const mtr_answer answer = mtr_roster(&h->state, table, MTR_THREADS, &filled);
+    if (answer != MTR_ACCEPTED)
+        fail(mtr_answer_text(answer));
+    for (size_t i = 0; i < filled; i++)
         printf("roster %" PRIu32 " %s %" PRIu32 " %" PRId64 " %" PRIu32 "\n", table[i].number, states[table[i].state],
             table[i].allotment, table[i].lag, table[i].share);
 }
@@ -322,7 +337,12 @@ int main(int argc, char **argv)
         fail("usage: controller SEED JOURNAL [MILLISECONDS, at most 1000000]");
     static host h;
     static world w;
-    h.state = mtr_by_value_start(MTR_DEFAULT_THOUSANDTH, MTR_DEFAULT_INTERVAL).state;
+    if (mtr_version() != MTR_VERSION)
+        fail("the library is not of the header's version");
+    /* A host that has a state before its first start: the first record, below, is a start that is refused. */
+    const mtr_answer answer = mtr_start(&h.state, MTR_DEFAULT_THOUSANDTH, MTR_DEFAULT_INTERVAL);
+    if (answer != MTR_ACCEPTED)
+        fail(mtr_answer_text(answer));
     h.journal = fopen(argv[2], "wb");
     if (h.journal == NULL)
         fail("the journal cannot be opened");

@@ -5,7 +5,8 @@
 //! What is then unchanged, and what otherwise.
 //! ```
 
-use crate::names::{Value, FAMILIES, REFUSED};
+use crate::interface::Constant;
+use crate::names::{NOT_STARTED, REFUSED};
 use crate::parse::Function;
 use crate::Error;
 
@@ -13,15 +14,23 @@ use crate::Error;
 pub struct Comment {
     /// What the function does.
     pub does: String,
-    /// Numbers and reasons in the order of the checks.
-    pub refuses: Vec<(u64, String)>,
+    /// What is refused, in the order of the checks.
+    pub refuses: Vec<Refusal>,
     /// What is unchanged, after a refusal and otherwise.
     pub leaves: String,
 }
 
-/// The parts of a function's comment. One that leaves a part out, or has an
-/// unknown number, is refused.
-pub fn comment(file: &str, f: &Function) -> Result<Comment, Error> {
+/// A refusal of a function: its number, its name and the reason.
+#[derive(Clone, Debug, PartialEq, Eq)]
+pub struct Refusal {
+    pub number: u64,
+    pub name: String,
+    pub reason: String,
+}
+
+/// The parts of a function's comment. One that leaves a part out, or has a
+/// number that is none of the answers, is refused.
+pub fn comment(file: &str, f: &Function, answers: &[Constant]) -> Result<Comment, Error> {
     let error = |text: &str| {
         let text = format!("the comment on {} {text}", f.name);
         Error::at(file, f.line, text)
@@ -43,9 +52,14 @@ pub fn comment(file: &str, f: &Function) -> Result<Comment, Error> {
                 "has `{part}` where a number and a reason should stand"
             )));
         };
-        match number.parse() {
-            Ok(known) if refusal(known).is_some() => refuses.push((known, reason.to_string())),
-            _ => return Err(error(&format!("has the unknown refusal `{number}`"))),
+        let known = number.parse().ok().and_then(|n| refusal(n, answers));
+        match known {
+            Some(answer) => refuses.push(Refusal {
+                number: answer.value,
+                name: answer.name.clone(),
+                reason: reason.to_string(),
+            }),
+            None => return Err(error(&format!("has the unknown refusal `{number}`"))),
         }
     }
     Ok(Comment {
@@ -55,12 +69,12 @@ pub fn comment(file: &str, f: &Function) -> Result<Comment, Error> {
     })
 }
 
-/// The name of a refusal that a function can give.
-pub fn refusal(number: u64) -> Option<&'static str> {
-    let names = FAMILIES.iter().flat_map(|f| f.names);
-    let mut refusals = names.filter(|n| n.0.starts_with(REFUSED));
-    let found = refusals.find(|n| matches!(n.1, Value::Number(value) if value == number));
-    found.map(|n| n.0)
+/// The refusal of a number, of those that a function can give.
+fn refusal(number: u64, answers: &[Constant]) -> Option<&Constant> {
+    let mut refusals = answers
+        .iter()
+        .filter(|a| a.name.starts_with(REFUSED) && a.name != NOT_STARTED);
+    refusals.find(|a| a.value == number)
 }
 
 #[cfg(test)]
@@ -75,7 +89,23 @@ mod tests {
             result: None,
             line: 3,
         };
-        comment("a.rt", &f).map_err(|e| e.to_string())
+        comment("a.rt", &f, &answers()).map_err(|e| e.to_string())
+    }
+
+    fn answers() -> Vec<Constant> {
+        [
+            ("ACCEPTED", 0),
+            ("REFUSED_NO_GROUP", 2),
+            ("REFUSED_UNSOUND", 16),
+            ("REFUSED_LENGTH", 17),
+            (NOT_STARTED, 20),
+        ]
+        .map(|(name, value)| Constant {
+            name: name.to_string(),
+            value,
+            doc: String::new(),
+        })
+        .to_vec()
     }
 
     #[test]
@@ -86,9 +116,14 @@ mod tests {
         .unwrap();
         assert_eq!(found.does, "Does it. Twice.");
         let refuses = [
-            (17, "too short".to_string()),
-            (2, "none, or no".to_string()),
+            (17, "REFUSED_LENGTH", "too short"),
+            (2, "REFUSED_NO_GROUP", "none, or no"),
         ];
+        let refuses = refuses.map(|(number, name, reason)| Refusal {
+            number,
+            name: name.to_string(),
+            reason: reason.to_string(),
+        });
         assert_eq!(found.refuses, refuses);
         assert_eq!(found.leaves, "It is unchanged. All is.");
         let found = of("Does. Refused: nothing. All is unchanged.").unwrap();
@@ -120,19 +155,19 @@ mod tests {
                 "Does. Refused: x, no. It is unchanged.",
                 "has the unknown refusal `x`",
             ),
+            (
+                "Does. Refused: 0, no. It is unchanged.",
+                "has the unknown refusal `0`",
+            ),
+            (
+                "Does. Refused: 20, no. It is unchanged.",
+                "has the unknown refusal `20`",
+            ),
         ] {
             assert_eq!(
                 of(doc),
                 Err(format!("a.rt:3: the comment on mtr_do {wanted}"))
             );
         }
-    }
-
-    #[test]
-    fn names() {
-        assert_eq!(refusal(1), Some("REFUSED_SETTINGS"));
-        assert_eq!(refusal(19), Some("REFUSED_FORM"));
-        assert_eq!(refusal(0), None);
-        assert_eq!(refusal(20), None);
     }
 }

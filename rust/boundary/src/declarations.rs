@@ -1,8 +1,7 @@
 //! The Rust declarations, in rustfmt's layout.
 
-use crate::comment::refusal;
-use crate::interface::{Family, Form, Function, Interface, Pass, Struct};
-use crate::{wrapped, COMMAND};
+use crate::interface::{Constant, Family, Form, Function, Interface, Pass, Struct};
+use crate::{words, wrapped, ANSWER, COMMAND};
 
 const WIDTH: usize = 80;
 /// The longest line of code.
@@ -13,6 +12,9 @@ pub fn print(interface: &Interface) -> String {
     let mut out = HEAD.replace("COMMAND", COMMAND);
     for family in &interface.families {
         out += &constants(family);
+    }
+    for family in interface.families.iter().filter(|f| f.c == ANSWER) {
+        out += &answer_text(family);
     }
     for s in &interface.structs {
         out += &structure(interface, s);
@@ -67,11 +69,27 @@ unsafe extern \"C\" {
 
 fn constants(family: &Family) -> String {
     let mut out = String::new();
-    for (name, value, doc) in &family.names {
+    for Constant { name, value, doc } in &family.names {
         out += &docs("", doc);
         out += &format!("pub const {name}: {} = {value};\n", family.of);
     }
     format!("// {}\n\n{out}\n", family.doc)
+}
+
+/// The function that puts an answer into words.
+fn answer_text(family: &Family) -> String {
+    let mut out = docs("", "What an answer says, in words.");
+    out += "pub const fn answer_text(answer: u32) -> &'static str {\n    match answer {\n";
+    for Constant { name, doc, .. } in &family.names {
+        let text = words(doc);
+        let line = format!("        {name} => {text:?},\n");
+        // rustfmt gives a long one a block of its own.
+        out += &match line.len() > CODE + 1 {
+            true => format!("        {name} => {{\n            {text:?}\n        }}\n"),
+            false => line,
+        };
+    }
+    out + "        _ => \"no listed answer\",\n    }\n}\n\n"
 }
 
 fn structure(interface: &Interface, s: &Struct) -> String {
@@ -128,9 +146,9 @@ fn function(f: &Function) -> String {
         out += "    ///\n";
     } else {
         out += &docs("    ", "Refuses, the first that applies:");
-        for (number, reason) in &f.comment.refuses {
-            let name = refusal(*number).unwrap_or_default();
-            let text = format!("{number} [`{name}`]: {reason}");
+        for refusal in &f.comment.refuses {
+            let (number, name) = (refusal.number, &refusal.name);
+            let text = format!("{number} [`{name}`]: {}", refusal.reason);
             for (i, line) in wrapped(&text, WIDTH - 10).iter().enumerate() {
                 let indent = if i == 0 { "- " } else { "  " };
                 out += &format!("    /// {indent}{line}\n");
@@ -173,8 +191,13 @@ fn function(f: &Function) -> String {
     };
     let head = format!("    pub {safe} fn {}", f.name);
     let line = format!("{head}({}){result};", parameters.join(", "));
-    if line.len() <= CODE {
+    if line.len() < CODE {
         return out + &line + "\n";
+    }
+    // So rustfmt has a line that ends in the last column.
+    if line.len() == CODE {
+        let line = format!("{head}({})", parameters.join(", "));
+        return out + &line + &format!("\n       {result};\n");
     }
     out += &format!("{head}(\n");
     for parameter in parameters {

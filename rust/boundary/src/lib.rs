@@ -7,11 +7,13 @@
 //! - [`names`]: the names that the constants have outside.
 //! - [`interface`]: all of it resolved, with sizes and offsets; what has no
 //!   fixed form at the boundary is refused with file and line.
+//! - [`costs`]: stack and instructions of each call, as measured.
 //! - [`header`]: the C header; [`declarations`]: the Rust declarations.
 
 #![forbid(unsafe_code)]
 
 pub mod comment;
+pub mod costs;
 pub mod declarations;
 pub mod header;
 pub mod interface;
@@ -25,6 +27,9 @@ use std::path::{Path, PathBuf};
 
 /// The command that renews the files, from the repository's root.
 pub const COMMAND: &str = "cargo run --release -p boundary";
+
+/// The enum of answers in C.
+const ANSWER: &str = "mtr_answer";
 
 /// What is refused, and where.
 #[derive(Clone, Debug, PartialEq, Eq)]
@@ -61,8 +66,10 @@ pub fn root() -> PathBuf {
 pub fn generate(root: &Path) -> Result<[(&'static str, String); 2], Error> {
     let sources = |path: &str| fs::read_to_string(root.join(path)).map_err(|e| e.to_string());
     let interface = interface::resolve(&sources)?;
+    let measured = sources(costs::FILE).map_err(|e| Error::at(costs::FILE, 1, e))?;
+    let costs = costs::costs(&measured, &costs::calls(&interface))?;
     Ok([
-        ("include/mtr.h", header::print(&interface)),
+        ("include/mtr.h", header::print(&interface, &costs)),
         ("rust/mtr/src/raw.rs", declarations::print(&interface)),
     ])
 }
@@ -80,4 +87,11 @@ fn wrapped(text: &str, width: usize) -> Vec<String> {
         }
     }
     lines
+}
+
+/// A comment as part of a sentence.
+pub fn words(doc: &str) -> String {
+    let mut letters = doc.trim_end_matches('.').chars();
+    let first = letters.next().map(|c| c.to_ascii_lowercase());
+    first.into_iter().chain(letters).collect()
 }

@@ -17,10 +17,23 @@ pub enum Value {
         of: &'static str,
         field: &'static str,
     },
+    /// The version as one number: 10000 × major + 100 × minor + patch.
+    Version,
 }
 
-/// A constant's name without the prefix, its value, and what it is.
-pub type Name = (&'static str, Value, &'static str);
+/// Where the names of a family come from.
+#[derive(Clone, Copy, Debug)]
+pub enum Names {
+    /// A constant's name without the prefix, its value, and what it is.
+    One(&'static str, Value, &'static str),
+    /// Every public constant of this type in a source, in its order: its name
+    /// behind the start, its value and its comment.
+    All {
+        file: &'static str,
+        start: &'static str,
+        of: &'static str,
+    },
+}
 
 /// Constants that belong together.
 #[derive(Clone, Copy, Debug)]
@@ -28,9 +41,9 @@ pub struct Family {
     pub doc: &'static str,
     /// Type in Rust.
     pub of: &'static str,
-    /// An enum in C; otherwise macros.
-    pub choice: bool,
-    pub names: &'static [Name],
+    /// The enum in C; macros if it has no name.
+    pub c: &'static str,
+    pub names: &'static [Names],
 }
 
 /// The modules of crates/abi in the order in which they are printed, and what
@@ -42,44 +55,75 @@ pub const SECTIONS: [(&str, &str); 4] = [
     ("version", "Version"),
 ];
 
+/// The start of an exported function's name whose state goes by value. In C
+/// the function without `by_value_` takes its place.
+pub const BY_VALUE: &str = "mtr_by_value_";
+
+/// Parameters that are named numbers, and the type of these in C.
+pub const TYPED: [(&str, &str); 1] = [("reason", "mtr_reason")];
+
 /// The prefix of an answer other than 0.
 pub const REFUSED: &str = "REFUSED_";
+
+/// The answer that no function gives.
+pub const NOT_STARTED: &str = "REFUSED_NOT_STARTED";
 
 const SCHEDULER: &str = "crates/scheduler/src/lib.rt";
 const RUN: &str = "crates/scheduler/src/threads.rt";
 const PRIORITY: &str = "crates/scheduler/src/priority.rt";
 const REPLAY: &str = "crates/replay/src/lib.rt";
+/// Where the version stands.
+pub const VERSION: &str = "crates/abi/src/version.rt";
 
 const fn constant(file: &'static str, name: &'static str) -> Value {
     Value::Constant { file, name }
+}
+
+const fn one(name: &'static str, value: Value, doc: &'static str) -> Names {
+    Names::One(name, value, doc)
 }
 
 const fn number(value: u64) -> Value {
     Value::Number(value)
 }
 
-pub const FAMILIES: [Family; 9] = [
+pub const FAMILIES: [Family; 10] = [
+    Family {
+        doc: "The version; mtr_version answers that of the library.",
+        of: "u32",
+        c: "",
+        names: &[
+            one("VERSION_MAJOR", constant(VERSION, "MAJOR"), "Major."),
+            one("VERSION_MINOR", constant(VERSION, "MINOR"), "Minor."),
+            one("VERSION_PATCH", constant(VERSION, "PATCH"), "Patch."),
+            one(
+                "VERSION",
+                Value::Version,
+                "One number: 10000 times the major, 100 times the minor, and the patch.",
+            ),
+        ],
+    },
     Family {
         doc: "Numbers of threads and groups, and the parts of a block.",
         of: "usize",
-        choice: false,
+        c: "",
         names: &[
-            (
+            one(
                 "THREADS",
                 constant(SCHEDULER, "Scheduler::THREADS"),
                 "Most threads; their numbers begin at 0.",
             ),
-            (
+            one(
                 "GROUPS",
                 constant(SCHEDULER, "Scheduler::GROUPS"),
                 "Most groups; their numbers begin at 0.",
             ),
-            (
+            one(
                 "BLOCK_BYTES",
                 constant(REPLAY, "BLOCK"),
                 "Bytes of an event block.",
             ),
-            (
+            one(
                 "RECORDS",
                 Value::Length {
                     of: "Records",
@@ -92,34 +136,34 @@ pub const FAMILIES: [Family; 9] = [
     Family {
         doc: "Limits and defaults.",
         of: "u32",
-        choice: false,
+        c: "",
         names: &[
-            (
+            one(
                 "NO_THREAD",
                 constant(SCHEDULER, "Scheduler::THREADS"),
                 "The thread of an idle dispatch, and the running one if none runs.",
             ),
-            (
+            one(
                 "WHOLE",
                 constant(SCHEDULER, "Scheduler::WHOLE"),
                 "The whole core in thousandths: the greatest ceiling and reservation.",
             ),
-            (
+            one(
                 "DEFAULT_THOUSANDTH",
                 constant(SCHEDULER, "Settings::THOUSANDTH"),
                 "m by default.",
             ),
-            (
+            one(
                 "DEFAULT_INTERVAL",
                 constant(SCHEDULER, "Settings::INTERVAL"),
                 "P by default.",
             ),
-            (
+            one(
                 "MOST_THOUSANDTH",
                 constant(SCHEDULER, "Settings::THOUSANDTH_MOST"),
                 "The greatest m.",
             ),
-            (
+            one(
                 "MOST_INTERVAL",
                 constant(SCHEDULER, "Settings::INTERVAL_MOST"),
                 "The greatest P.",
@@ -129,24 +173,24 @@ pub const FAMILIES: [Family; 9] = [
     Family {
         doc: "Limits of the meter and of priorities.",
         of: "u64",
-        choice: false,
+        c: "",
         names: &[
-            (
+            one(
                 "METER_LIMIT",
                 constant(SCHEDULER, "Scheduler::METER_LIMIT"),
                 "From this meter on a dispatch is refused.",
             ),
-            (
+            one(
                 "METER_MOST",
                 constant(SCHEDULER, "Scheduler::METER_MOST"),
                 "The greatest meter of a sound state.",
             ),
-            (
+            one(
                 "LOWEST_PRIORITY",
                 constant(PRIORITY, "LOWEST"),
                 "The lowest priority.",
             ),
-            (
+            one(
                 "HIGHEST_PRIORITY",
                 constant(PRIORITY, "HIGHEST"),
                 "The highest priority.",
@@ -156,90 +200,90 @@ pub const FAMILIES: [Family; 9] = [
     Family {
         doc: "Answers: 0, or why a call is refused.",
         of: "u32",
-        choice: true,
+        c: "mtr_answer",
         names: &[
-            ("ACCEPTED", number(0), "The call is accepted."),
-            (
+            one("ACCEPTED", number(0), "The call is accepted."),
+            one(
                 "REFUSED_SETTINGS",
                 number(1),
                 "m or P is outside its range.",
             ),
-            (
+            one(
                 "REFUSED_NO_GROUP",
                 number(2),
                 "The group or parent is above 15 or not open, or group 0 is to be closed.",
             ),
-            (
+            one(
                 "REFUSED_GROUP_NUMBER",
                 number(3),
                 "The group's number is above 15, already open or not above the parent's.",
             ),
-            (
+            one(
                 "REFUSED_AMOUNT",
                 number(4),
                 "The ceiling, reservation or priority is outside its range.",
             ),
-            (
+            one(
                 "REFUSED_NO_ROOM",
                 number(5),
                 "The ceiling or reservation exceeds what the group has free.",
             ),
-            (
+            one(
                 "REFUSED_GROUP_IN_USE",
                 number(6),
                 "The group has a thread or a child.",
             ),
-            (
+            one(
                 "REFUSED_NO_THREAD",
                 number(7),
                 "The thread's number is above 63 or not admitted.",
             ),
-            (
+            one(
                 "REFUSED_ALREADY_ADMITTED",
                 number(8),
                 "The thread is already admitted.",
             ),
-            (
+            one(
                 "REFUSED_THREAD_RUNNING",
                 number(9),
                 "The thread to remove is running.",
             ),
-            (
+            one(
                 "REFUSED_NOT_BLOCKED",
                 number(10),
                 "The thread to wake is not blocked.",
             ),
-            ("REFUSED_NOTHING_RUNNING", number(11), "Nothing is running."),
-            ("REFUSED_BUSY", number(12), "A thread is running."),
-            (
+            one("REFUSED_NOTHING_RUNNING", number(11), "Nothing is running."),
+            one("REFUSED_BUSY", number(12), "A thread is running."),
+            one(
                 "REFUSED_OVER_SLICE",
                 number(13),
                 "More is used than the slice.",
             ),
-            ("REFUSED_REASON", number(14), "The reason is above 3."),
-            (
+            one("REFUSED_REASON", number(14), "The reason is above 3."),
+            one(
                 "REFUSED_METER_FULL",
                 number(15),
                 "The meter is at its limit.",
             ),
-            ("REFUSED_UNSOUND", number(16), "The state is not sound."),
-            (
+            one("REFUSED_UNSOUND", number(16), "The state is not sound."),
+            one(
                 "REFUSED_LENGTH",
                 number(17),
                 "The area is not 512 bytes, or the table is too short.",
             ),
-            (
+            one(
                 "REFUSED_CHECK",
                 number(18),
                 "The check of the block is wrong.",
             ),
-            (
+            one(
                 "REFUSED_FORM",
                 number(19),
                 "The block or a record has not the form that is asked for.",
             ),
-            (
-                "REFUSED_NOT_STARTED",
+            one(
+                NOT_STARTED,
                 constant(REPLAY, "HALTED"),
                 "In what mtrrun prints alone: no start is accepted since a refused block.",
             ),
@@ -248,24 +292,24 @@ pub const FAMILIES: [Family; 9] = [
     Family {
         doc: "Reasons of a report.",
         of: "u64",
-        choice: true,
+        c: "mtr_reason",
         names: &[
-            (
+            one(
                 "REASON_TICK",
                 constant(RUN, "TICK"),
                 "The thread stays runnable.",
             ),
-            (
+            one(
                 "REASON_BLOCK",
                 constant(RUN, "BLOCK"),
                 "It blocks until it is woken.",
             ),
-            (
+            one(
                 "REASON_YIELD",
                 constant(RUN, "YIELD"),
                 "Its allotment is filled and it moves to the rear.",
             ),
-            (
+            one(
                 "REASON_EXIT",
                 constant(RUN, "EXIT"),
                 "It leaves the list and frees its number.",
@@ -275,15 +319,15 @@ pub const FAMILIES: [Family; 9] = [
     Family {
         doc: "Status of a thread's entry in the state.",
         of: "u8",
-        choice: true,
+        c: "mtr_status",
         names: &[
-            ("STATUS_FREE", number(0), "The number is not admitted."),
-            (
+            one("STATUS_FREE", number(0), "The number is not admitted."),
+            one(
                 "STATUS_RUNNABLE",
                 constant(RUN, "Thread::RUNNABLE"),
                 "Runnable or running.",
             ),
-            (
+            one(
                 "STATUS_BLOCKED",
                 constant(RUN, "Thread::BLOCKED"),
                 "Blocked.",
@@ -293,43 +337,43 @@ pub const FAMILIES: [Family; 9] = [
     Family {
         doc: "State of a thread in the roster.",
         of: "u32",
-        choice: true,
+        c: "mtr_roster_state",
         names: &[
-            ("STATE_RUNNABLE", number(0), "Runnable."),
-            ("STATE_BLOCKED", number(1), "Blocked."),
-            ("STATE_RUNNING", number(2), "Running."),
+            one("ROSTER_RUNNABLE", number(0), "Runnable."),
+            one("ROSTER_BLOCKED", number(1), "Blocked."),
+            one("ROSTER_RUNNING", number(2), "Running."),
         ],
     },
     Family {
         doc: "Whether a group's entry in the state is open.",
         of: "u8",
-        choice: true,
+        c: "mtr_opened",
         names: &[
-            ("GROUP_CLOSED", number(0), "Closed."),
-            ("GROUP_OPEN", number(1), "Open."),
+            one("GROUP_CLOSED", number(0), "Closed."),
+            one("GROUP_OPEN", number(1), "Open."),
         ],
     },
     Family {
         doc: "Kinds of records, and the fields that each uses; the others are 0.",
         of: "u8",
-        choice: true,
+        c: "mtr_kind",
         names: &[
-            (
+            one(
                 "KIND_OPEN",
                 number(1),
                 "Open a group: subject, group is the parent, amount the ceiling.",
             ),
-            ("KIND_CLOSE", number(2), "Close a group: subject."),
-            (
+            one("KIND_CLOSE", number(2), "Close a group: subject."),
+            one(
                 "KIND_ADMIT",
                 number(3),
                 "Admit a thread: subject, group, amount is the reservation.",
             ),
-            ("KIND_REMOVE", number(4), "Remove a thread: subject."),
-            ("KIND_WAKE", number(5), "Wake a thread: subject."),
-            ("KIND_DISPATCH", number(6), "Dispatch."),
-            ("KIND_REPORT", number(7), "Report: reason, ticks."),
-            ("KIND_START", number(8), "Start: amount is m, ticks is P."),
+            one("KIND_REMOVE", number(4), "Remove a thread: subject."),
+            one("KIND_WAKE", number(5), "Wake a thread: subject."),
+            one("KIND_DISPATCH", number(6), "Dispatch."),
+            one("KIND_REPORT", number(7), "Report: reason, ticks."),
+            one("KIND_START", number(8), "Start: amount is m, ticks is P."),
         ],
     },
 ];

@@ -1,45 +1,42 @@
 //! `dist.sh`: the folder that it fills is whole, links from C, C++ and Rust,
-//! and a failure leaves everything as it was.
+//! through pkg-config and CMake too, and a failure leaves everything as it was.
 
+mod common;
+
+use common::{committed, folder, has, printed, run, said};
 use std::fs;
 use std::path::{Path, PathBuf};
-use std::process::{Command, Output};
-
-/// A folder of this test's own.
-fn folder(name: &str) -> PathBuf {
-    let folder = Path::new(env!("CARGO_TARGET_TMPDIR")).join(name);
-    let _ = fs::remove_dir_all(&folder);
-    fs::create_dir_all(&folder).unwrap();
-    folder
-}
-
-fn run(command: &mut Command) -> Output {
-    command
-        .output()
-        .unwrap_or_else(|e| panic!("{command:?}: {e}"))
-}
-
-fn said(output: &Output) -> String {
-    let both = [&output.stdout[..], &output.stderr[..]].concat();
-    String::from_utf8_lossy(&both).into_owned()
-}
-
-/// What a command that must succeed prints.
-fn printed(command: &mut Command) -> String {
-    let output = run(command);
-    assert!(output.status.success(), "{command:?}: {}", said(&output));
-    said(&output)
-}
+use std::process::{Command, Output, Stdio};
+use std::sync::Once;
 
 /// Runs the script of a repository on what is built there.
 fn dist(root: &Path, folder: &Path) -> Output {
     run(Command::new(root.join("dist.sh"))
         .arg("--no-build")
         .arg(folder)
-        .env("VERSION", "test-1"))
+        .env("REVISION", "test-1"))
 }
 
+fn cargo() -> Command {
+    Command::new(std::env::var("CARGO").unwrap_or("cargo".to_string()))
+}
+
+/// The folder filled, after the program `journal` is built.
 fn filled(name: &str) -> PathBuf {
+    static JOURNAL: Once = Once::new();
+    JOURNAL.call_once(|| {
+        let mut build = cargo();
+        build.args([
+            "build",
+            "--quiet",
+            "--offline",
+            "--release",
+            "-p",
+            "journal",
+        ]);
+        build.env("CARGO_TARGET_DIR", boundary::root().join("target/cargo"));
+        printed(build.current_dir(boundary::root()));
+    });
     let folder = folder(name).join("dist");
     let output = dist(&boundary::root(), &folder);
     assert!(output.status.success(), "{}", said(&output));
@@ -71,11 +68,23 @@ fn contents() {
     let folder = filled("dist-contents");
     let root = boundary::root();
     let wanted = [
+        "KIT",
+        "PROVED.md",
         "README",
         "SHA256SUMS",
         "VERSION",
+        "bin/journal",
+        "bin/mtrrun",
+        "examples/host/c/controller.c",
+        "examples/host/rust/Cargo.toml",
+        "examples/host/rust/src/host.rs",
+        "examples/host/rust/src/main.rs",
+        "examples/host/rust/src/world.rs",
         "include/mtr.h",
+        "lib/cmake/mtr/mtrConfig.cmake",
+        "lib/cmake/mtr/mtrConfigVersion.cmake",
         "lib/libmtr.a",
+        "lib/pkgconfig/mtr.pc",
         "rust/Cargo.toml",
         "rust/build.rs",
     ];
@@ -92,18 +101,24 @@ fn contents() {
     for (ours, theirs) in [
         ("include/mtr.h", "include/mtr.h"),
         ("target/staticlib/libabi.a", "lib/libmtr.a"),
+        ("target/bin/mtrrun", "bin/mtrrun"),
         ("rust/mtr/src/raw.rs", "rust/src/raw.rs"),
+        (
+            "examples/host/c/controller.c",
+            "examples/host/c/controller.c",
+        ),
     ] {
         let same = fs::read(root.join(ours)).unwrap() == fs::read(folder.join(theirs)).unwrap();
         assert!(same, "{ours} and {theirs}");
     }
-    assert_eq!(
-        fs::read_to_string(folder.join("VERSION")).unwrap(),
-        "test-1\n"
-    );
-    assert!(fs::read_to_string(folder.join("README"))
-        .unwrap()
-        .contains("version test-1"));
+    let text = |name: &str| fs::read_to_string(folder.join(name)).unwrap();
+    let kit = printed(Command::new("rt").arg("version"));
+    assert_eq!(text("KIT"), kit);
+    let version = text("VERSION");
+    let version = version.trim();
+    assert!(committed("include/mtr.h").contains(&format!("MTR_VERSION_TEXT \"{version}\"")));
+    let readme = text("README");
+    assert!(readme.contains(&format!("version {version}")) && readme.contains("test-1"));
     let mut sums = Command::new("sha256sum");
     let checked = printed(sums.args(["-c", "SHA256SUMS"]).current_dir(&folder));
     assert_eq!(
@@ -129,19 +144,53 @@ fn contents() {
     assert_eq!(sizes[1..3], ["0", "0"], "data and bss");
 }
 
+/// The page says what it is of, and has the page on the proofs whole.
+#[test]
+fn what_was_proved() {
+    let folder = filled("dist-proved");
+    let page = fs::read_to_string(folder.join("PROVED.md")).unwrap();
+    let kit = printed(Command::new("rt").arg("version"));
+    let version = fs::read_to_string(folder.join("VERSION")).unwrap();
+    for (what, value) in [
+        ("version", version.trim()),
+        ("commit", "test-1"),
+        ("kit", kit.trim()),
+    ] {
+        assert!(page.contains(&format!("| {what} | {value} |\n")), "{page}");
+    }
+    let gate = page.lines().find_map(|l| l.strip_prefix("| gate | "));
+    let gate = gate.unwrap().trim_end_matches(" |");
+    let counted = gate.ends_with(" failed") && gate.contains(" passed, ");
+    assert!(counted || gate == "was not run for this tree", "{gate}");
+    let proofs = committed("docs/PROOFS.md");
+    let (_, rest) = proofs.split_once('\n').unwrap();
+    assert!(page.ends_with(rest));
+    for name in ["`refused-same`", "`owed`", "`round-trip`", "## Assumed"] {
+        assert!(page.contains(name), "{name}");
+    }
+}
+
 /// A program that admits, dispatches, journals and prints.
 const PROGRAM: &str = r#"#include <mtr.h>
 #include <stdio.h>
 int main(void) {
-    mtr_scheduler state = mtr_by_value_start(MTR_DEFAULT_THOUSANDTH, MTR_DEFAULT_INTERVAL).state;
-    state = mtr_by_value_admit(state, 5, 0, 500).state;
-    mtr_reply full = mtr_by_value_admit(state, 7, 0, 501);
-    mtr_reply run = mtr_by_value_dispatch(state);
+    static mtr_scheduler state;
+    mtr_run run;
+    if (mtr_start(&state, MTR_DEFAULT_THOUSANDTH, MTR_DEFAULT_INTERVAL) != MTR_ACCEPTED)
+        return 1;
+    if (mtr_admit(&state, 5, 0, 500) != MTR_ACCEPTED)
+        return 2;
+    mtr_answer full = mtr_admit(&state, 7, 0, 501);
+    if (mtr_dispatch(&state, &run) != MTR_ACCEPTED)
+        return 3;
     mtr_records list = {{{MTR_KIND_DISPATCH, 0, 0, 0, 0, 0}}};
     uint8_t area[MTR_BLOCK_BYTES];
-    uint32_t written = mtr_by_value_write_block(area, sizeof area, 0, list, 1);
-    printf("%u %u %u %u %u\n", full.answer, run.thread, run.slice, written, mtr_by_value_read_block(area, sizeof area, 0).count);
-    return full.answer != MTR_REFUSED_NO_ROOM;
+    size_t count = 0;
+    if (mtr_write_block(area, sizeof area, 0, &list, 1) != MTR_ACCEPTED)
+        return 4;
+    mtr_answer read = mtr_read_block(area, sizeof area, 0, &list, &count);
+    printf("%u %u %u %u %u\n", (unsigned)full, run.thread, run.slice, (unsigned)read, (unsigned)count);
+    return full != MTR_REFUSED_NO_ROOM;
 }
 "#;
 
@@ -181,13 +230,100 @@ fn links_from_c() {
     );
 }
 
+/// pkg-config and CMake find the folder where it stands.
+#[test]
+fn links_through_other_tools() {
+    let folder = filled("dist-tools");
+    let above = folder.parent().unwrap();
+    fs::write(above.join("prog.c"), PROGRAM).unwrap();
+    let ran = |program: &Path| assert_eq!(printed(&mut Command::new(program)), "5 5 20000 0 1\n");
+    let version = fs::read_to_string(folder.join("VERSION")).unwrap();
+    if has("pkg-config") {
+        let asked = |flag: &str| {
+            let mut ask = Command::new("pkg-config");
+            ask.env("PKG_CONFIG_PATH", folder.join("lib/pkgconfig"));
+            printed(ask.args([flag, "mtr"]))
+        };
+        assert_eq!(asked("--modversion"), version);
+        let mut compile = Command::new("cc");
+        compile.args(asked("--cflags").split_whitespace());
+        compile.arg("prog.c").args(["-o", "by-pkg-config"]);
+        compile.args(asked("--libs").split_whitespace());
+        printed(compile.current_dir(above));
+        ran(&above.join("by-pkg-config"));
+    }
+    if has("cmake") {
+        let lists = "cmake_minimum_required(VERSION 3.10)
+project(prog C)
+find_package(mtr WANTED REQUIRED)
+add_executable(prog prog.c)
+target_link_libraries(prog mtr::mtr)
+";
+        let configured = |wanted: &str| {
+            fs::write(
+                above.join("CMakeLists.txt"),
+                lists.replace("WANTED", wanted),
+            )
+            .unwrap();
+            let _ = fs::remove_dir_all(above.join("build"));
+            let mut configure = Command::new("cmake");
+            configure.args(["-S", ".", "-B", "build"]);
+            configure.arg(format!("-DCMAKE_PREFIX_PATH={}", folder.display()));
+            run(configure.current_dir(above))
+        };
+        // A later version, another major one; then this.
+        for wanted in ["1.99", "2.0", "0.9"] {
+            assert!(!configured(wanted).status.success(), "{wanted}");
+        }
+        for wanted in ["1.0", version.trim()] {
+            let output = configured(wanted);
+            assert!(output.status.success(), "{}", said(&output));
+        }
+        printed(
+            Command::new("cmake")
+                .args(["--build", "build"])
+                .current_dir(above),
+        );
+        ran(&above.join("build/prog"));
+    }
+}
+
+/// The example hosts that go along, and their journal replayed by the program that does.
+#[test]
+fn hosts_and_programs() {
+    let folder = filled("dist-hosts");
+    let above = folder.parent().unwrap();
+    let mut compile = Command::new("cc");
+    compile.args(["-std=c11", "-O2", "-Idist/include"]);
+    compile.args(["dist/examples/host/c/controller.c", "-Ldist/lib", "-lmtr"]);
+    printed(compile.args(["-o", "controller"]).current_dir(above));
+    let mut build = cargo();
+    build.args(["build", "--quiet", "--offline", "-j1", "--manifest-path"]);
+    build.arg("dist/examples/host/rust/Cargo.toml");
+    build.env("CARGO_TARGET_DIR", above.join("target"));
+    printed(build.current_dir(above));
+    let hosted = |program: &str| {
+        let mut host = Command::new(above.join(program));
+        printed(host.args(["1", "journal.blocks"]).current_dir(above))
+    };
+    let told = hosted("controller");
+    assert_eq!(hosted("target/debug/controller"), told);
+    let journal = || Stdio::from(fs::File::open(above.join("journal.blocks")).unwrap());
+    let replayed = printed(Command::new(folder.join("bin/mtrrun")).stdin(journal()));
+    assert!(told.starts_with(&replayed) && told[replayed.len()..].starts_with("roster "));
+    let mut text = Command::new(folder.join("bin/journal"));
+    let text = printed(text.args(["decode", "journal.blocks"]).current_dir(above));
+    assert!(text.contains("admit"), "{text}");
+}
+
 /// A project with the folder in vendor/mtr, which makes the crate a member of
 /// the project's workspace.
 #[test]
 fn links_from_rust() {
     let project = folder("dist-rust");
-    let output = dist(&boundary::root(), &project.join("vendor/mtr"));
-    assert!(output.status.success(), "{}", said(&output));
+    let vendor = filled("dist-rust-filled");
+    fs::create_dir(project.join("vendor")).unwrap();
+    fs::rename(vendor, project.join("vendor/mtr")).unwrap();
     let manifest = "[package]
 name = \"project\"
 version = \"0.1.0\"
@@ -210,11 +346,10 @@ fn main() -> Result<(), Refusal> {
     fs::write(project.join("Cargo.toml"), manifest).unwrap();
     fs::create_dir(project.join("src")).unwrap();
     fs::write(project.join("src/main.rs"), program).unwrap();
-    let cargo = std::env::var("CARGO").unwrap_or("cargo".to_string());
-    let mut build = Command::new(cargo);
+    let mut build = cargo();
     build.args(["run", "--quiet", "--offline", "-j1"]);
     build.env("CARGO_TARGET_DIR", project.join("target"));
-    let wanted = "Err(NoRoom) Run { thread: 5, slice: 20000, passed: 0 }\n";
+    let wanted = "Err(NoRoom) Run { thread: 5, slice: 20000, before: 0 }\n";
     assert_eq!(printed(build.current_dir(&project)), wanted);
 }
 
@@ -237,11 +372,29 @@ fn failures_leave_the_folder() {
     // A repository without an archive.
     let above = folder("dist-fail");
     let root = above.join("repository");
-    for part in ["target/staticlib", "include", "rust/mtr/src"] {
+    for part in [
+        "target/staticlib",
+        "target/bin",
+        "target/cargo/release",
+        "docs",
+        "examples/host/c",
+        "examples/host/rust/src",
+        "include",
+        "rust/mtr/src",
+    ] {
         fs::create_dir_all(root.join(part)).unwrap();
     }
-    for part in ["dist.sh", "include/mtr.h", "rust/mtr/build.rs"] {
+    for part in [
+        "dist.sh",
+        "include/mtr.h",
+        "rust/mtr/build.rs",
+        "examples/host/rust/Cargo.toml",
+        "docs/PROOFS.md",
+    ] {
         fs::copy(boundary::root().join(part), root.join(part)).unwrap();
+    }
+    for part in ["target/bin/mtrrun", "target/cargo/release/journal"] {
+        fs::write(root.join(part), "").unwrap();
     }
     let target = above.join("dist");
     let refused = |text: &str| {
@@ -286,7 +439,7 @@ fn failures_leave_the_folder() {
     // What is missing later: the header, with an earlier folder in place. In its
     // manifest nothing is left of what the tests need.
     fs::copy(boundary::root().join("target/staticlib/libabi.a"), &archive).unwrap();
-    let package = "[package]\nname = \"mtr\"\n\n";
+    let package = "[package]\nname = \"mtr\"\nversion = \"1.1.0\"\n\n";
     let tests = "[dev-dependencies]\nmodel = { path = \"../model\" }\n\n[[test]]\nname = \"a\"\n\n";
     let library = "[lib]\ndoctest = false\n";
     fs::write(
@@ -298,6 +451,17 @@ fn failures_leave_the_folder() {
     assert!(output.status.success(), "{}", said(&output));
     let manifest = fs::read_to_string(target.join("rust/Cargo.toml")).unwrap();
     assert_eq!(manifest, [package, library].concat());
+    // The gate's last line, unless the gate ended before the commit.
+    let gate = root.join("target/gate.txt");
+    fs::write(&gate, "a line\n5 passed, 0 failed\n").unwrap();
+    let paged = || {
+        assert!(dist(&root, &target).status.success());
+        fs::read_to_string(target.join("PROVED.md")).unwrap()
+    };
+    assert!(paged().contains("| gate | 5 passed, 0 failed |\n"));
+    printed(Command::new("touch").args(["-d", "@1"]).arg(&gate));
+    assert!(paged().contains("| gate | was not run for this tree |\n"));
+
     let earlier = files(&target);
     fs::remove_file(root.join("include/mtr.h")).unwrap();
     refused("can't fill");

@@ -1,16 +1,15 @@
-//! The committed header and declarations: up to date, accepted by the C and C++
-//! compilers, and the same sizes and offsets in both.
+//! The committed header and declarations: up to date, and the same sizes,
+//! offsets and constants in both.
+
+mod common;
 
 use std::collections::BTreeMap;
 use std::fs;
-use std::path::{Path, PathBuf};
+use std::path::Path;
 use std::process::{Command, Output};
 
 use boundary::interface::c_name;
-
-fn committed(path: &str) -> String {
-    fs::read_to_string(boundary::root().join(path)).unwrap_or_else(|e| panic!("{path}: {e}"))
-}
+use common::{archive, committed, folder};
 
 #[test]
 fn up_to_date() {
@@ -32,14 +31,6 @@ fn up_to_date() {
     }
 }
 
-/// A folder of this test's own.
-fn folder(name: &str) -> PathBuf {
-    let folder = Path::new(env!("CARGO_TARGET_TMPDIR")).join(name);
-    let _ = fs::remove_dir_all(&folder);
-    fs::create_dir_all(&folder).unwrap();
-    folder
-}
-
 fn compile(compiler: &str, standard: &str, include: &Path, source: &Path) -> Output {
     let flags = ["-Wall", "-Wextra", "-Werror", "-pedantic", "-fsyntax-only"];
     Command::new(compiler)
@@ -50,30 +41,6 @@ fn compile(compiler: &str, standard: &str, include: &Path, source: &Path) -> Out
         .arg(source)
         .output()
         .unwrap_or_else(|e| panic!("{compiler}: {e}"))
-}
-
-#[test]
-fn compilers_accept_the_header() {
-    let folder = folder("accept");
-    let include = boundary::root().join("include");
-    // Twice, to try the guard.
-    let text = "#include \"mtr.h\"\n#include \"mtr.h\"\nint main(void) { return MTR_ACCEPTED; }\n";
-    for (compiler, standard, name) in [
-        ("cc", "c11", "a.c"),
-        ("cc", "c17", "a.c"),
-        ("c++", "c++11", "a.cc"),
-        ("c++", "c++20", "a.cc"),
-    ] {
-        let source = folder.join(name);
-        fs::write(&source, text).unwrap();
-        let output = compile(compiler, standard, &include, &source);
-        let said = String::from_utf8_lossy(&output.stderr);
-        assert!(
-            output.status.success(),
-            "{compiler} -std={standard}: {said}"
-        );
-        assert!(said.is_empty(), "{said}");
-    }
 }
 
 /// A field of another size makes the compiler refuse the header.
@@ -204,9 +171,12 @@ fn both_have_the_same_constants() {
 /// The archive has every function that the header declares and no other.
 #[test]
 fn the_archive_has_the_functions() {
-    let archive = boundary::root().join("target/staticlib/libabi.a");
-    let output = Command::new("nm").arg("-g").arg(&archive).output().unwrap();
-    assert!(output.status.success(), "nm {}", archive.display());
+    let output = Command::new("nm")
+        .arg("-g")
+        .arg(archive())
+        .output()
+        .unwrap();
+    assert!(output.status.success(), "nm {}", archive().display());
     let text = String::from_utf8(output.stdout).unwrap();
     let mut present: Vec<&str> = text
         .lines()

@@ -5,6 +5,7 @@
 //! - [`attack`]: arbitrary bytes and arguments to every exported function.
 //! - [`guard`]: memory to lend between two pages that nobody may touch.
 //! - [`faults`]: names the call at which a signal ended the process.
+//! - [`stack`]: the stack that each call needs.
 //! - [`journal`]: a journal made of any bytes, and its replay on every side.
 //! - `fuzzer`: `mtrrun` as a function, in the build for libFuzzer only (`fuzz/build.sh`).
 
@@ -18,3 +19,4 @@ mod fuzzer;
 pub mod guard;
 pub mod journal;
 pub mod program;
+pub mod stack;

@@ -44,3 +44,13 @@ mod scheduler;
 pub use blocks::Event;
 pub use refusal::Refusal;
 pub use scheduler::{reservation_of, Dispatch, Entry, Reason, Scheduler, Settings, ThreadState};
+
+/// The version of the library that is linked: 10000 times the major, 100 times
+/// the minor, and the patch. It is that of this crate, [`raw::VERSION`].
+///
+/// ```
+/// assert_eq!(mtr::version(), mtr::raw::VERSION);
+/// ```
+pub fn version() -> u32 {
+    raw::mtr_version()
+}

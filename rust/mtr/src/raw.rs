@@ -29,6 +29,17 @@ macro_rules! layout {
     };
 }
 
+// The version; mtr_version answers that of the library.
+
+/// Major.
+pub const VERSION_MAJOR: u32 = 1;
+/// Minor.
+pub const VERSION_MINOR: u32 = 1;
+/// Patch.
+pub const VERSION_PATCH: u32 = 0;
+/// One number: 10000 times the major, 100 times the minor, and the patch.
+pub const VERSION: u32 = 10100;
+
 // Numbers of threads and groups, and the parts of a block.
 
 /// Most threads; their numbers begin at 0.
@@ -134,11 +145,11 @@ pub const STATUS_BLOCKED: u8 = 2;
 // State of a thread in the roster.
 
 /// Runnable.
-pub const STATE_RUNNABLE: u32 = 0;
+pub const ROSTER_RUNNABLE: u32 = 0;
 /// Blocked.
-pub const STATE_BLOCKED: u32 = 1;
+pub const ROSTER_BLOCKED: u32 = 1;
 /// Running.
-pub const STATE_RUNNING: u32 = 2;
+pub const ROSTER_RUNNING: u32 = 2;
 
 // Whether a group's entry in the state is open.
 
@@ -165,6 +176,40 @@ pub const KIND_DISPATCH: u8 = 6;
 pub const KIND_REPORT: u8 = 7;
 /// Start: amount is m, ticks is P.
 pub const KIND_START: u8 = 8;
+
+/// What an answer says, in words.
+pub const fn answer_text(answer: u32) -> &'static str {
+    match answer {
+        ACCEPTED => "the call is accepted",
+        REFUSED_SETTINGS => "m or P is outside its range",
+        REFUSED_NO_GROUP => {
+            "the group or parent is above 15 or not open, or group 0 is to be closed"
+        }
+        REFUSED_GROUP_NUMBER => {
+            "the group's number is above 15, already open or not above the parent's"
+        }
+        REFUSED_AMOUNT => "the ceiling, reservation or priority is outside its range",
+        REFUSED_NO_ROOM => "the ceiling or reservation exceeds what the group has free",
+        REFUSED_GROUP_IN_USE => "the group has a thread or a child",
+        REFUSED_NO_THREAD => "the thread's number is above 63 or not admitted",
+        REFUSED_ALREADY_ADMITTED => "the thread is already admitted",
+        REFUSED_THREAD_RUNNING => "the thread to remove is running",
+        REFUSED_NOT_BLOCKED => "the thread to wake is not blocked",
+        REFUSED_NOTHING_RUNNING => "nothing is running",
+        REFUSED_BUSY => "a thread is running",
+        REFUSED_OVER_SLICE => "more is used than the slice",
+        REFUSED_REASON => "the reason is above 3",
+        REFUSED_METER_FULL => "the meter is at its limit",
+        REFUSED_UNSOUND => "the state is not sound",
+        REFUSED_LENGTH => "the area is not 512 bytes, or the table is too short",
+        REFUSED_CHECK => "the check of the block is wrong",
+        REFUSED_FORM => "the block or a record has not the form that is asked for",
+        REFUSED_NOT_STARTED => {
+            "in what mtrrun prints alone: no start is accepted since a refused block"
+        }
+        _ => "no listed answer",
+    }
+}
 
 /// A thread. status: 0 free, 1 runnable, 2 blocked. admission and anchor are
 /// the meter at admission and at the anchor; ticks and since are the thread's
@@ -578,7 +623,8 @@ unsafe extern "C" {
     ///
     /// `table` is valid for reads and writes of `table_len` elements, is
     /// aligned and not null, and nothing else uses them during the call.
-    pub unsafe fn mtr_by_value_roster(state: Scheduler, table: *mut Entry, table_len: usize) -> u32;
+    pub unsafe fn mtr_by_value_roster(state: Scheduler, table: *mut Entry, table_len: usize)
+        -> u32;
 
     /// Writes the block of this number with the first `count` records to a lent
     /// area.

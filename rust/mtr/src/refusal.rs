@@ -6,7 +6,7 @@ use core::fmt;
 use crate::raw;
 
 macro_rules! refusals {
-    ($($name:ident = $number:ident: $meaning:literal,)+) => {
+    ($($name:ident = $number:ident,)+) => {
         /// Why a call is refused. A refusal leaves the scheduler and all lent
         /// memory as they were.
         ///
@@ -22,7 +22,7 @@ macro_rules! refusals {
         #[repr(u32)]
         pub enum Refusal {
             $(
-                #[doc = concat!("The refusal: ", $meaning, ".")]
+                #[doc = concat!("[`raw::", stringify!($number), "`].")]
                 $name = raw::$number,
             )+
         }
@@ -39,43 +39,42 @@ macro_rules! refusals {
                 }
             }
 
-            /// What the refusal says, without its number.
-            pub const fn meaning(self) -> &'static str {
-                match self {
-                    $(Refusal::$name => $meaning,)+
-                }
-            }
         }
     };
 }
 
 refusals! {
-    Settings = REFUSED_SETTINGS: "m or P is outside its range",
-    NoGroup = REFUSED_NO_GROUP: "the group is above 15 or not open, or group 0 is to be closed",
-    GroupNumber = REFUSED_GROUP_NUMBER: "the group's number is above 15, already open or not above the parent's",
-    Amount = REFUSED_AMOUNT: "the ceiling, reservation or priority is outside its range",
-    NoRoom = REFUSED_NO_ROOM: "the ceiling or reservation exceeds what the group has free",
-    GroupInUse = REFUSED_GROUP_IN_USE: "the group has a thread or a child",
-    NoThread = REFUSED_NO_THREAD: "the thread's number is above 63 or not admitted",
-    AlreadyAdmitted = REFUSED_ALREADY_ADMITTED: "the thread is already admitted",
-    ThreadRunning = REFUSED_THREAD_RUNNING: "the thread to remove is running",
-    NotBlocked = REFUSED_NOT_BLOCKED: "the thread to wake is not blocked",
-    NothingRunning = REFUSED_NOTHING_RUNNING: "nothing is running",
-    Busy = REFUSED_BUSY: "a thread is running",
-    OverSlice = REFUSED_OVER_SLICE: "more is used than the slice",
-    Reason = REFUSED_REASON: "the reason is above 3",
-    MeterFull = REFUSED_METER_FULL: "the meter is at its limit",
-    Unsound = REFUSED_UNSOUND: "the state is not sound",
-    Length = REFUSED_LENGTH: "the area is not 512 bytes, or the table is too short",
-    Check = REFUSED_CHECK: "the check of the block is wrong",
-    Form = REFUSED_FORM: "the block or a record has not the form that is asked for",
-    NotStarted = REFUSED_NOT_STARTED: "in a replay: a block is damaged and no start accepted since",
+    Settings = REFUSED_SETTINGS,
+    NoGroup = REFUSED_NO_GROUP,
+    GroupNumber = REFUSED_GROUP_NUMBER,
+    Amount = REFUSED_AMOUNT,
+    NoRoom = REFUSED_NO_ROOM,
+    GroupInUse = REFUSED_GROUP_IN_USE,
+    NoThread = REFUSED_NO_THREAD,
+    AlreadyAdmitted = REFUSED_ALREADY_ADMITTED,
+    ThreadRunning = REFUSED_THREAD_RUNNING,
+    NotBlocked = REFUSED_NOT_BLOCKED,
+    NothingRunning = REFUSED_NOTHING_RUNNING,
+    Busy = REFUSED_BUSY,
+    OverSlice = REFUSED_OVER_SLICE,
+    Reason = REFUSED_REASON,
+    MeterFull = REFUSED_METER_FULL,
+    Unsound = REFUSED_UNSOUND,
+    Length = REFUSED_LENGTH,
+    Check = REFUSED_CHECK,
+    Form = REFUSED_FORM,
+    NotStarted = REFUSED_NOT_STARTED,
 }
 
 impl Refusal {
     /// The number that stands for the refusal in answers and journals.
     pub const fn number(self) -> u32 {
         self as u32
+    }
+
+    /// What the refusal says, without its number.
+    pub const fn meaning(self) -> &'static str {
+        raw::answer_text(self as u32)
     }
 }
 

@@ -61,11 +61,11 @@ impl Reason {
 /// What an accepted dispatch decides.
 #[derive(Clone, Copy, Debug, PartialEq, Eq, Hash)]
 pub enum Dispatch {
-    /// The thread runs for at most `slice` ticks. `passed` threads, all
+    /// The thread runs for at most `slice` ticks. `before` threads, all
     /// blocked, stood before it in the list.
-    Run { thread: u8, slice: u32, passed: u32 },
-    /// No thread is runnable; the list has `passed` threads.
-    Idle { passed: u32 },
+    Run { thread: u8, slice: u32, before: u32 },
+    /// No thread is runnable; the list has `before` threads.
+    Idle { before: u32 },
 }
 
 /// State of an admitted thread.
@@ -96,8 +96,8 @@ impl Entry {
         Entry {
             thread: entry.number as u8,
             state: match entry.state {
-                raw::STATE_BLOCKED => ThreadState::Blocked,
-                raw::STATE_RUNNING => ThreadState::Running,
+                raw::ROSTER_BLOCKED => ThreadState::Blocked,
+                raw::ROSTER_RUNNING => ThreadState::Running,
                 _ => ThreadState::Runnable,
             },
             allotment: entry.allotment,
@@ -127,7 +127,7 @@ impl Entry {
 /// scheduler.report(Reason::Block, 12_000)?;
 ///
 /// // Thread 5 keeps its place in the list while it is blocked.
-/// let run = Dispatch::Run { thread: 7, slice: 10_000, passed: 1 };
+/// let run = Dispatch::Run { thread: 7, slice: 10_000, before: 1 };
 /// assert_eq!(scheduler.dispatch()?, run);
 /// # Ok::<(), Refusal>(())
 /// ```
@@ -208,13 +208,13 @@ impl Scheduler {
     /// [`Busy`](Refusal::Busy) or [`MeterFull`](Refusal::MeterFull).
     pub fn dispatch(&mut self) -> Result<Dispatch, Refusal> {
         let reply = numbers::dispatch(self.state);
-        let (passed, slice) = (reply.before, reply.slice);
+        let (before, slice) = (reply.before, reply.slice);
         let dispatch = match reply.thread {
-            raw::NO_THREAD => Dispatch::Idle { passed },
+            raw::NO_THREAD => Dispatch::Idle { before },
             thread => Dispatch::Run {
                 thread: thread as u8,
                 slice,
-                passed,
+                before,
             },
         };
         self.take(reply)?;
@@ -240,7 +240,7 @@ impl Scheduler {
     /// use mtr::{Dispatch, Event, Refusal, Scheduler};
     ///
     /// let mut scheduler = Scheduler::default();
-    /// let idle = Dispatch::Idle { passed: 0 };
+    /// let idle = Dispatch::Idle { before: 0 };
     /// assert_eq!(scheduler.call(Event::Dispatch), Ok(Some(idle)));
     /// let wake = Event::Wake { thread: 9 };
     /// assert_eq!(scheduler.call(wake), Err(Refusal::NoThread));

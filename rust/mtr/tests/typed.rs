@@ -11,11 +11,11 @@ const DEFAULT: Settings = Settings {
     interval: 20_000,
 };
 
-fn run(thread: u8, slice: u32, passed: u32) -> Dispatch {
+fn run(thread: u8, slice: u32, before: u32) -> Dispatch {
     Dispatch::Run {
         thread,
         slice,
-        passed,
+        before,
     }
 }
 
@@ -300,7 +300,7 @@ fn threads() {
     assert_eq!(s.dispatch(), Ok(run(5, 20_000, 0)));
     s.report(Reason::Exit, 7).unwrap();
     assert_eq!((s.list(), s.meter()), (&[][..], 8));
-    assert_eq!(s.dispatch(), Ok(Dispatch::Idle { passed: 0 }));
+    assert_eq!(s.dispatch(), Ok(Dispatch::Idle { before: 0 }));
 }
 
 #[test]
@@ -310,7 +310,7 @@ fn idle_tells_the_length_of_the_list() {
         s.dispatch().unwrap();
         s.report(Reason::Block, 1).unwrap();
     }
-    assert_eq!(s.dispatch(), Ok(Dispatch::Idle { passed: 2 }));
+    assert_eq!(s.dispatch(), Ok(Dispatch::Idle { before: 2 }));
     assert_eq!(s.running(), None);
 }
 

@@ -17,9 +17,9 @@ use Rattle.scheduler.specs.Effects.{rear, chosen}
 use Rattle.scheduler.specs.Rule.{step}
 use Rattle.scheduler.proofs.Facts.{fits}
 
--- al: the allotments; l: the list; r: the running thread, or 64; p: the preemption interval; sel: the threads that count
+-- al: the allotments; l: the list; r: the running thread, or 64; v: its slice; sel: the threads that count
 unfoldable pub gauge : (ℕ → Bool) → ℕ → (ℕ → ℕ) → List ℕ → ℕ → ℕ → ℕ
-gauge sel x al l r p = ahead x (mask sel al) l + cond (eqb r 64 || before r x l) 0 (mask sel (λ n. min (al n) p) r)
+gauge sel x al l r v = ahead x (mask sel al) l + cond (eqb r 64 || before r x l) 0 (cond (sel r) v 0)
 
 cond-zero : (b : Bool) → cond {A = ℕ} b 0 0 ≡ 0
 cond-zero true = refl
@@ -33,7 +33,7 @@ cond-add : (b : Bool) (n d m : ℕ) → n + d ≤ m → cond b n 0 + cond b d 0 
 cond-add true n d m h = h
 cond-add false n d m h = le-refl 0
 
-module _ (sel : ℕ → Bool) (x : ℕ) (off : sel x ≡ false) (p : ℕ) (l : List ℕ) (in-list : T (member x l)) where
+module _ (sel : ℕ → Bool) (x : ℕ) (off : sel x ≡ false) (v : ℕ) (l : List ℕ) (in-list : T (member x l)) where
   masked : (al al′ : ℕ → ℕ) (r : ℕ) → ((n : ℕ) → (n ≡ r → ⊥) → al′ n ≡ al n) → (n : ℕ) → (n ≡ r → ⊥) → mask sel al′ n ≡ mask sel al n
   masked al al′ r same n a = ap (λ (z : ℕ). cond (sel n) z 0) (same n a)
 
@@ -44,69 +44,69 @@ module _ (sel : ℕ → Bool) (x : ℕ) (off : sel x ≡ false) (p : ℕ) (l : L
 
   -- a thread joins at the rear
   pub gauge-join : (al al′ : ℕ → ℕ) (r n : ℕ) → ((k : ℕ) → (k ≡ n → ⊥) → al′ k ≡ al k) → (n ≡ r → ⊥) → (n ≡ x → ⊥) → T (not (member n l))
-      → gauge sel x al′ (l ++ n ∷ []) r p ≤ gauge sel x al l r p
+      → gauge sel x al′ (l ++ n ∷ []) r v ≤ gauge sel x al l r v
   unfolding gauge
   gauge-join al al′ r n same ar ax out =
       let a = ahead-snoc x (mask sel al′) l (n ∷ []) in-list in
       let b = rw (without-none n l out) at (gone al al′ n same ax) in
-      rw (before-snoc r x l (n ∷ []) in-list, same r (λ z. ar (sym z)))
+      rw (before-snoc r x l (n ∷ []) in-list)
       (omega arith)
 
   -- a thread that doesn't run leaves the list
   pub gauge-leave : (al al′ : ℕ → ℕ) (r n : ℕ) → ((k : ℕ) → (k ≡ n → ⊥) → al′ k ≡ al k) → (n ≡ r → ⊥) → (n ≡ x → ⊥)
-      → gauge sel x al′ (without n l) r p ≤ gauge sel x al l r p
+      → gauge sel x al′ (without n l) r v ≤ gauge sel x al l r v
   unfolding gauge
   gauge-leave al al′ r n same ar ax =
       let b = gone al al′ n same ax in
-      rw (before-without n r x ar ax l, same r (λ z. ar (sym z)))
+      rw (before-without n r x ar ax l)
       (omega arith)
 
   -- a run starts: the chosen thread is x or stands before it
-  pub gauge-run : (al : ℕ → ℕ) (r : ℕ) → T (eqb r x || before r x l) → gauge sel x al l r p ≤ gauge sel x al l 64 p
+  pub gauge-run : (al : ℕ → ℕ) (r v′ : ℕ) → T (eqb r x || before r x l) → gauge sel x al l r v′ ≤ gauge sel x al l 64 v
   unfolding gauge
-  gauge-run al r t = omega (arith, none)
+  gauge-run al r v′ t = omega (arith, none)
     where
-      or-zero : (b : Bool) → cond (b || true) 0 (mask sel (λ n. min (al n) p) r) ≡ 0
+      or-zero : (b : Bool) → cond (b || true) 0 (cond (sel r) v′ 0) ≡ 0
       or-zero true = refl
       or-zero false = refl
 
-      none : cond (eqb r 64 || before r x l) 0 (mask sel (λ n. min (al n) p) r) ≡ 0
+      none : cond (eqb r 64 || before r x l) 0 (cond (sel r) v′ 0) ≡ 0
       none =
-          by (λ b. T (b || before r x l) → cond (eqb r 64 || before r x l) 0 (mask sel (λ n. min (al n) p) r) ≡ 0) (eqb r x)
+          by (λ b. T (b || before r x l) → cond (eqb r 64 || before r x l) 0 (cond (sel r) v′ 0) ≡ 0) (eqb r x)
           (λ e _. rw (ap sel (eqb-true r x e) ∙ off) (cond-zero (eqb r 64 || before r x l)))
           (λ e u. rw (is (before r x l) u) (or-zero (eqb r 64)))
           t
 
   -- another thread's run ends after t ticks. d is what it loses before x, if it stands there
-  module _ (al al′ : ℕ → ℕ) (r t : ℕ) (same : (k : ℕ) → (k ≡ r → ⊥) → al′ k ≡ al k) (other : r ≡ x → ⊥) (runs : r ≡ 64 → ⊥) (fits : t ≤ min (al r) p) where
+  module _ (al al′ : ℕ → ℕ) (r t : ℕ) (same : (k : ℕ) → (k ≡ r → ⊥) → al′ k ≡ al k) (other : r ≡ x → ⊥) (runs : r ≡ 64 → ⊥) (v′ : ℕ) (fits : t ≤ v) (less : t ≤ al r) where
     -- what it lost is in what stood before x, or in what ran behind it
-    covered : (A : ℕ) → A + cond (before r x l) (cond (sel r) t 0) 0 ≤ ahead x (mask sel al) l → A + cond (sel r) t 0 ≤ gauge sel x al l r p
+    covered : (A : ℕ) → A + cond (before r x l) (cond (sel r) t 0) 0 ≤ ahead x (mask sel al) l → A + cond (sel r) t 0 ≤ gauge sel x al l r v
     unfolding gauge
     covered A h =
         rw (ne-eqb r 64 runs)
-        ((elim (before r x l) as (λ b. A + cond b (cond (sel r) t 0) 0 ≤ ahead x (mask sel al) l → A + cond (sel r) t 0 ≤ ahead x (mask sel al) l + cond b 0 (mask sel (λ n. min (al n) p) r))
-        [ true ↦ λ u. omega arith | false ↦ λ u. omega (arith, cond-le (sel r) t (min (al r) p) fits) ])
+        ((elim (before r x l) as (λ b. A + cond b (cond (sel r) t 0) 0 ≤ ahead x (mask sel al) l → A + cond (sel r) t 0 ≤ ahead x (mask sel al) l + cond b 0 (cond (sel r) v 0))
+        [ true ↦ λ u. omega arith | false ↦ λ u. omega (arith, cond-le (sel r) t v fits) ])
         h)
 
-    pub gauge-stay : al′ r + t ≤ al r → gauge sel x al′ l 64 p + cond (sel r) t 0 ≤ gauge sel x al l r p
+    pub gauge-stay : al′ r + t ≤ al r → gauge sel x al′ l 64 v′ + cond (sel r) t 0 ≤ gauge sel x al l r v
     unfolding gauge
-    gauge-stay less =
-        let c = covered (ahead x (mask sel al′) l) (ahead-stay x r (cond (sel r) t 0) (mask sel al) (mask sel al′) (masked al al′ r same) (cond-add (sel r) (al′ r) t (al r) less) l) in
+    gauge-stay stays =
+        let c = covered (ahead x (mask sel al′) l) (ahead-stay x r (cond (sel r) t 0) (mask sel al) (mask sel al′) (masked al al′ r same) (cond-add (sel r) (al′ r) t (al r) stays) l) in
         omega arith
 
     at-most : ahead x (mask sel al′) (without r l) + cond (before r x l) (cond (sel r) t 0) 0 ≤ ahead x (mask sel al) l
     at-most =
         let b = gone al al′ r same other in
-        let d : cond (before r x l) (cond (sel r) t 0) 0 ≤ cond (before r x l) (mask sel al r) 0 = cond-le (before r x l) (cond (sel r) t 0) (mask sel al r) (cond-le (sel r) t (al r) (omega arith)) in
+        let d : cond (before r x l) (cond (sel r) t 0) 0 ≤ cond (before r x l) (mask sel al r) 0 = cond-le (before r x l) (cond (sel r) t 0) (mask sel al r) (cond-le (sel r) t (al r) less) in
         omega arith
 
-    pub gauge-off : gauge sel x al′ (without r l) 64 p + cond (sel r) t 0 ≤ gauge sel x al l r p
+    pub gauge-off : gauge sel x al′ (without r l) 64 v′ + cond (sel r) t 0 ≤ gauge sel x al l r v
     unfolding gauge
     gauge-off =
         let c = covered (ahead x (mask sel al′) (without r l)) at-most in
         omega arith
 
-    pub gauge-rear : gauge sel x al′ (without r l ++ r ∷ []) 64 p + cond (sel r) t 0 ≤ gauge sel x al l r p
+    pub gauge-rear : gauge sel x al′ (without r l ++ r ∷ []) 64 v′ + cond (sel r) t 0 ≤ gauge sel x al l r v
     unfolding gauge
     gauge-rear =
         let c = covered (ahead x (mask sel al′) (without r l)) at-most in
@@ -114,8 +114,8 @@ module _ (sel : ℕ → Bool) (x : ℕ) (off : sel x ≡ false) (p : ℕ) (l : L
         omega arith
 
   -- x's own run ends
-  module _ (al al′ : ℕ → ℕ) (same : (k : ℕ) → (k ≡ x → ⊥) → al′ k ≡ al k) where
-    pub gauge-self : gauge sel x al′ l 64 p ≤ gauge sel x al l x p
+  module _ (al al′ : ℕ → ℕ) (v′ : ℕ) (same : (k : ℕ) → (k ≡ x → ⊥) → al′ k ≡ al k) where
+    pub gauge-self : gauge sel x al′ l 64 v′ ≤ gauge sel x al l x v
     unfolding gauge
     gauge-self =
         let z : mask sel al′ x + 0 ≤ mask sel al x = rw off (le-refl 0) in
@@ -123,7 +123,7 @@ module _ (sel : ℕ → Bool) (x : ℕ) (off : sel x ≡ false) (p : ℕ) (l : L
         omega arith
 
     pub gauge-turn : (res : ℕ → ℕ) (m h : ℕ) → ((n : ℕ) → T (member n l) → al n ≤ res n * m) → sumOf (mask sel res) l ≤ h
-        → gauge sel x al′ (without x l ++ x ∷ []) 64 p ≤ h * m
+        → gauge sel x al′ (without x l ++ x ∷ []) 64 v′ ≤ h * m
     unfolding gauge
     gauge-turn res m h bound sum =
         let c = ahead-rear x (mask sel al′) l [] in

@@ -16,7 +16,7 @@ use Rattle.scheduler.specs.Rule.{Reply, isDispatch, accept, refuse, step
 use Rattle.scheduler.specs.Stretch.{Event, trace, final, accepted, ticksOf, named, ticksIn, allTicks, ticksBy, anyone, throughout, keepsAdmitted, Present}
 use Rattle.scheduler.proofs.Passed.{reported-cases}
 use Rattle.scheduler.proofs.Share.Keep.{held, running-named}
-use Rattle.scheduler.proofs.Share.Stretch.{Attributed, events, stretch}
+use Rattle.scheduler.proofs.Share.Stretch.{Attributed, events, replied}
 
 -- an accepted call raises the meter by the ticks of its report
 meter-step : (c : Call) (s : Scheduler) → (effect c s) .meter ≡ s .meter + ticksOf c
@@ -35,13 +35,13 @@ pub meter-growth : (cs : List Call) (s : Scheduler) (last : ℕ) → s .meter + 
 unfolding allTicks trace final ticksIn named accepted step accept refuse
 meter-growth [] s last = omega arith
 meter-growth (c ∷ cs) s last =
-    by (λ b. eqb (refusal c s) 0 ≡ b → Grows (cond b (accept c s) (refuse (refusal c s) s))) (eqb (refusal c s) 0)
-    (λ q _. omega (arith, meter-step c s, meter-growth cs (effect c s) (named last (record { call = c; reply = accept c s }))))
+    by (λ b. eqb (refusal c s) 0 ≡ b → Grows (replied c s b)) (eqb (refusal c s) 0)
+    (λ q _. omega (arith, meter-step c s, meter-growth cs (effect c s) (named last (record { call = c; given = s; reply = accept c s }))))
     (λ q _. rw q (omega (arith, meter-growth cs s last)))
     refl
   where
     Grows : Reply → Type 0
-    Grows r = s .meter + ticksIn anyone last (events c cs r) ≡ (final (r .state) cs) .meter
+    Grows r = s .meter + ticksIn anyone last (events c cs s r) ≡ (final (r .state) cs) .meter
 
 -- S is the growth of the thread's own ticks, as long as it stays admitted.
 Counts : ℕ → ℕ → List Call → Scheduler → Scheduler → List Event → Type 0
@@ -50,7 +50,7 @@ Counts y last cs s z es =
 
 counts-accepted : (y last : ℕ) (c : Call) (cs : List Call) (s : Scheduler) → refusal c s ≡ 0 → Attributed last s
     → ((s : Scheduler) (last : ℕ) → Attributed last s → Counts y last cs s (final s cs) (trace s cs))
-    → Counts y last cs s (final (effect c s) cs) (events c cs (accept c s))
+    → Counts y last cs s (final (effect c s) cs) (events c cs s (accept c s))
 unfolding Counts throughout ticksIn named accepted accept
 counts-accepted y last c cs s e at ih a t =
     let s′ = effect c s in
@@ -63,7 +63,8 @@ counts : (y : ℕ) (cs : List Call) (s : Scheduler) (last : ℕ) → Attributed 
 unfolding Counts trace final throughout ticksIn named accepted step accept refuse
 counts y [] s last at = λ a t. omega arith
 counts y (c ∷ cs) s last at =
-    by (λ b. eqb (refusal c s) 0 ≡ b → Counts y last cs s (final ((cond b (accept c s) (refuse (refusal c s) s)) .state) cs) (events c cs (cond b (accept c s) (refuse (refusal c s) s)))) (eqb (refusal c s) 0)
+    by (λ b. eqb (refusal c s) 0 ≡ b → Counts y last cs s (final ((replied c s b) .state) cs) (events c cs s (replied c s b)))
+    (eqb (refusal c s) 0)
     (λ q _. counts-accepted y last c cs s (eqb-true (refusal c s) 0 q) at (counts y cs))
     (λ q _. rw q (λ a t. omega (arith, counts y cs s last at a t)))
     refl

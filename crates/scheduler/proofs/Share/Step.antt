@@ -24,11 +24,12 @@ use Rattle.scheduler.specs.Rule.{step}
 use Rattle.scheduler.specs.Stretch.{keeps, accepted, ticksOf, keepsRunnable}
 use Rattle.scheduler.proofs.Facts.{Facts, facts, in-threads, member-admitted, below-quantum, fits, take-rear, take-off, room, listed-join, thread-other, thread-same, unlisted}
 use Rattle.scheduler.proofs.Share.Gauge.{gauge, gauge-join, gauge-leave, gauge-run, gauge-stay, gauge-off, gauge-rear, gauge-self, gauge-turn, quiet-step, run-step, turn-step}
-use Rattle.scheduler.proofs.Passed.{passes, not-used-up, admit-passed, remove-passed, wake-passed, dispatch-passed, report-passed}
+use Rattle.scheduler.proofs.Steps.{allotment-other, slice-other, charged-left, charged-full, woken-allotment}
+use Rattle.scheduler.proofs.Passed.{passes, admit-passed, remove-passed, wake-passed, dispatch-passed, report-passed}
 
 -- the potential of x, with the threads that sel picks
 unfoldable pub weight : (ℕ → Bool) → ℕ → Scheduler → ℕ
-weight sel x s = gauge sel x (allotmentAt s) (listed s) (s .running) (s .settings .interval)
+weight sel x s = gauge sel x (allotmentAt s) (listed s) (s .running) (sliceAt s (s .running))
 
 unfoldable pub potential : (f h : ℕ) → (ℕ → Bool) → ℕ → Scheduler → ℕ
 potential f h sel x s = f * weight sel x s + h * (f * s .settings .thousandth - allotmentAt s x)
@@ -47,47 +48,11 @@ quiet-potential f h sel x s s′ w k =
     (quiet-step f h (f * s .settings .thousandth) w (weight sel x s) (weight sel x s′) (allotmentAt s x) (allotmentAt s′ x) (k .same-allotment) (k .lighter))
 
 group-quiet : (sel : ℕ → Bool) (x : ℕ) (s : Scheduler) (n : ℕ) (g : Group) → Quiet sel x s (withGroup s n g) 0
-unfolding withGroup weight listed allotmentAt
+unfolding withGroup weight listed allotmentAt sliceAt
 group-quiet sel x s n g = record { same-settings = refl; same-allotment = refl; lighter = omega arith }
 
--- allotments after a change of one thread
-allotment-other : (s : Scheduler) (n : ℕ) (t : Thread) (j : ℕ) → (j ≡ n → ⊥) → allotmentAt (withThread s n t) j ≡ allotmentAt s j
-unfolding allotmentAt
-allotment-other s n t j a = ap (λ (t : Thread). t .allotment) (thread-other s n t j a)
-
-allotment-same : (s : Scheduler) (n : ℕ) (t : Thread) → n < length (s .threads) → allotmentAt (withThread s n t) n ≡ t .allotment
-unfolding allotmentAt
-allotment-same s n t h = ap (λ (t : Thread). t .allotment) (thread-same s n t h)
-
-charged-allotment : (s : Scheduler) (r reason used : ℕ) → r < length (s .threads)
-    → allotmentAt (withThread s r (chargedThread s reason used (threadAt s r))) r
-    ≡ cond (renewed reason used (threadAt s r)) (reservationAt s r * s .settings .thousandth) (allotmentAt s r - used)
-unfolding chargedThread reservationAt allotmentAt
-charged-allotment s r reason used h = allotment-same s r (chargedThread s reason used (threadAt s r)) h
-
--- the charged thread: what is left, or a full allotment
-pub charged-left : (s : Scheduler) (r reason used : ℕ) → r < length (s .threads) → renewed reason used (threadAt s r) ≡ false
-    → allotmentAt (withThread s r (chargedThread s reason used (threadAt s r))) r + used ≡ allotmentAt s r
-unfolding chargedThread allotmentAt
-charged-left s r reason used h e =
-    let q = charged-allotment s r reason used h ∙ ap (λ (b : Bool). cond b (reservationAt s r * s .settings .thousandth) (allotmentAt s r - used)) e in
-    omega (arith, q, not-used-up reason used (threadAt s r) e)
-
-charged-full : (s : Scheduler) (r reason used : ℕ) → r < length (s .threads) → renewed reason used (threadAt s r) ≡ true
-    → allotmentAt (withThread s r (chargedThread s reason used (threadAt s r))) r ≡ reservationAt s r * s .settings .thousandth
-charged-full s r reason used h e =
-    charged-allotment s r reason used h ∙ ap (λ (b : Bool). cond b (reservationAt s r * s .settings .thousandth) (allotmentAt s r - used)) e
-
-pub woken-allotment : (s : Scheduler) → Facts s → (n : ℕ) → T (admittedAt s n) → (j : ℕ) → allotmentAt (withThread s n (wokenThread s (threadAt s n))) j ≡ allotmentAt s j
-unfolding allotmentAt wokenThread
-woken-allotment s k n a j =
-    by (λ b. eqb j n ≡ b → allotmentAt (withThread s n (wokenThread s (threadAt s n))) j ≡ allotmentAt s j) (eqb j n)
-    (λ e _. rw (eqb-true j n e) (allotment-same s n (wokenThread s (threadAt s n)) (in-threads s k n a)))
-    (λ e _. allotment-other s n (wokenThread s (threadAt s n)) j (eqb-false j n e))
-    refl
-
 wake-quiet : (sel : ℕ → Bool) (x : ℕ) (s : Scheduler) → Facts s → (n : ℕ) → T (admittedAt s n) → Quiet sel x s (effect (wake n) s) 0
-unfolding effect weight listed withThread withList toRear
+unfolding effect weight listed withThread withList toRear sliceAt
 wake-quiet sel x s k n a = record {
   same-settings = refl;
   same-allotment = woken-allotment s k n a x;
@@ -107,9 +72,10 @@ module _ (sel : ℕ → Bool) (x : ℕ) (off : sel x ≡ false) (s : Scheduler) 
       clash (admittedAt s n) (ap (admittedAt s) z ∙ is (admittedAt s (s .running)) ((k .run (λ q. omega arith)) .admitted)) e
 
   admit-quiet : (n g f : ℕ) → n < 64 → admittedAt s n ≡ false → Quiet sel x s (effect (admit n g f) s) 0
-  unfolding effect weight join withList withThread listed allotmentAt
+  unfolding effect weight join withList withThread listed allotmentAt sliceAt
   admit-quiet n g f small e =
       let t = newThread s g f in
+      let at = withThread s n t in
       let same : (j : ℕ) → (j ≡ n → ⊥) → allotmentAt (withThread s n t) j ≡ allotmentAt s j = allotment-other s n t in
       let l : listed (join n (withThread s n t)) ≡ listed s ++ n ∷ [] =
       listed-join (withThread s n t) (omega (arith, room s k n small (unlisted s k n e), k .order64)) n in
@@ -117,31 +83,39 @@ module _ (sel : ℕ → Bool) (x : ℕ) (off : sel x ≡ false) (s : Scheduler) 
         same-settings = refl;
         same-allotment = same x (λ z. fresh-x n e (sym z));
         lighter =
-            subst (λ (z : List ℕ). gauge sel x (allotmentAt (withThread s n t)) z (s .running) (s .settings .interval) + 0 ≤ weight sel x s) (sym l)
-            (omega (arith, gauge-join sel x off (s .settings .interval) (listed s) x-in (allotmentAt s) (allotmentAt (withThread s n t)) (s .running) n same (fresh-run n small e) (fresh-x n e) (unlisted s k n e)));
+            subst (λ (z : List ℕ). gauge sel x (allotmentAt at) z (s .running) (sliceAt at (s .running)) + 0 ≤ weight sel x s) (sym l)
+            (subst (λ (v : ℕ). gauge sel x (allotmentAt at) (listed s ++ n ∷ []) (s .running) v + 0 ≤ weight sel x s)
+            (sym (slice-other s n t (s .running) (λ z. fresh-run n small e (sym z))))
+            (omega (arith, gauge-join sel x off (sliceAt s (s .running)) (listed s) x-in (allotmentAt s) (allotmentAt at) (s .running) n same
+            (fresh-run n small e) (fresh-x n e) (unlisted s k n e))));
       }
 
   remove-quiet : (n : ℕ) → T (admittedAt s n) → (n ≡ s .running → ⊥) → (n ≡ x → ⊥) → Quiet sel x s (effect (remove n) s) 0
-  unfolding effect weight offList withList withThread listed allotmentAt rear
+  unfolding effect weight offList withList withThread listed allotmentAt sliceAt rear
   remove-quiet n a ar ax =
-      let same : (j : ℕ) → (j ≡ n → ⊥) → allotmentAt (withThread s n noThread) j ≡ allotmentAt s j = allotment-other s n noThread in
+      let at = withThread s n noThread in
+      let same : (j : ℕ) → (j ≡ n → ⊥) → allotmentAt at j ≡ allotmentAt s j = allotment-other s n noThread in
       let l = take-off (s .order) (s .count) n (fits s k) (k .once) ((k .thread n a) .in-list) in
       record {
         same-settings = refl;
         same-allotment = same x (λ z. ax (sym z));
         lighter =
-            subst (λ (z : List ℕ). gauge sel x (allotmentAt (withThread s n noThread)) z (s .running) (s .settings .interval) + 0 ≤ weight sel x s) (sym l)
-            (omega (arith, gauge-leave sel x off (s .settings .interval) (listed s) x-in (allotmentAt s) (allotmentAt (withThread s n noThread)) (s .running) n same ar ax));
+            subst (λ (z : List ℕ). gauge sel x (allotmentAt at) z (s .running) (sliceAt at (s .running)) + 0 ≤ weight sel x s) (sym l)
+            (subst (λ (v : ℕ). gauge sel x (allotmentAt at) (without n (listed s)) (s .running) v + 0 ≤ weight sel x s)
+            (sym (slice-other s n noThread (s .running) (λ z. ar (sym z))))
+            (omega (arith, gauge-leave sel x off (sliceAt s (s .running)) (listed s) x-in (allotmentAt s) (allotmentAt at) (s .running) n same ar ax)));
       }
 
   dispatch-quiet : T (runnableAt s x) → s .running ≡ 64 → Quiet sel x s (effect dispatch s) 0
-  unfolding effect weight withRun listed allotmentAt chosen runnableAt blockedAt
+  unfolding effect weight withRun listed allotmentAt sliceAt chosen runnableAt blockedAt
   dispatch-quiet run idle = record {
     same-settings = refl;
     same-allotment = refl;
     lighter =
-        subst (λ (z : ℕ). gauge sel x (allotmentAt s) (listed s) (chosen s) (s .settings .interval) + 0 ≤ gauge sel x (allotmentAt s) (listed s) z (s .settings .interval)) (sym idle)
-        (omega (arith, gauge-run sel x off (s .settings .interval) (listed s) x-in (allotmentAt s) (chosen s) (first-before x (runnableAt s) (listed s) x-in run)));
+        subst (λ (z : ℕ). gauge sel x (allotmentAt s) (listed s) (chosen s) (sliceAt s (chosen s)) + 0
+        ≤ gauge sel x (allotmentAt s) (listed s) z (sliceAt s z)) (sym idle)
+        (omega (arith, gauge-run sel x off (sliceAt s 64) (listed s) x-in (allotmentAt s) (chosen s) (sliceAt s (chosen s))
+        (first-before x (runnableAt s) (listed s) x-in run)));
   }
 
   -- a report by another thread
@@ -153,50 +127,57 @@ module _ (sel : ℕ → Bool) (x : ℕ) (off : sel x ≡ false) (s : Scheduler) 
     r-in = (k .thread r r-adm) .in-list
 
     -- the weight before the report, with r by name
-    weight-r : weight sel x s ≡ gauge sel x (allotmentAt s) (listed s) r (s .settings .interval)
+    weight-r : weight sel x s ≡ gauge sel x (allotmentAt s) (listed s) r (sliceAt s r)
     unfolding weight
-    weight-r = ap (λ (j : ℕ). gauge sel x (allotmentAt s) (listed s) j (s .settings .interval)) is-r
+    weight-r = ap (λ (j : ℕ). gauge sel x (allotmentAt s) (listed s) j (sliceAt s j)) is-r
 
-    fit′ : used ≤ min (allotmentAt s r) (s .settings .interval)
+    less : used ≤ allotmentAt s r
     unfolding sliceAt
-    fit′ = fit
+    less = omega (arith, fit, min-le-left (allotmentAt s r) (s .settings .interval))
 
     exit-quiet : Quiet sel x s (exited r used s) (cond (sel r) used 0)
-    unfolding weight exited offList withList withRun withThread listed allotmentAt rear
+    unfolding weight exited offList withList withRun withThread listed allotmentAt sliceAt rear
     exit-quiet =
-        let same : (j : ℕ) → (j ≡ r → ⊥) → allotmentAt (withThread s r noThread) j ≡ allotmentAt s j = allotment-other s r noThread in
+        let at = withThread s r noThread in
+        let same : (j : ℕ) → (j ≡ r → ⊥) → allotmentAt at j ≡ allotmentAt s j = allotment-other s r noThread in
         let l = take-off (s .order) (s .count) r (fits s k) (k .once) r-in in
         record {
           same-settings = refl;
           same-allotment = same x (λ z. other (sym z));
           lighter =
-              subst (λ (z : List ℕ). gauge sel x (allotmentAt (withThread s r noThread)) z 64 (s .settings .interval) + cond (sel r) used 0 ≤ weight sel x s) (sym l)
-              (rw weight-r (gauge-off sel x off (s .settings .interval) (listed s) x-in (allotmentAt s) (allotmentAt (withThread s r noThread)) r used same other runs fit′));
+              subst (λ (z : List ℕ). gauge sel x (allotmentAt at) z 64 (sliceAt at 64) + cond (sel r) used 0 ≤ weight sel x s) (sym l)
+              (rw weight-r (gauge-off sel x off (sliceAt s r) (listed s) x-in (allotmentAt s) (allotmentAt at) r used same other runs
+              (sliceAt at 64) fit less));
         }
 
     rear-quiet : Quiet sel x s (toRear r (charged r reason used s)) (cond (sel r) used 0)
-    unfolding weight toRear charged withList withRun withThread listed allotmentAt rear
+    unfolding weight toRear charged withList withRun withThread listed allotmentAt sliceAt rear
     rear-quiet =
         let t = chargedThread s reason used (threadAt s r) in
-        let same : (j : ℕ) → (j ≡ r → ⊥) → allotmentAt (withThread s r t) j ≡ allotmentAt s j = allotment-other s r t in
+        let at = withThread s r t in
+        let same : (j : ℕ) → (j ≡ r → ⊥) → allotmentAt at j ≡ allotmentAt s j = allotment-other s r t in
         let l = take-rear (s .order) (s .count) r (fits s k) (k .once) r-in in
         record {
           same-settings = refl;
           same-allotment = same x (λ z. other (sym z));
           lighter =
-              subst (λ (z : List ℕ). gauge sel x (allotmentAt (withThread s r t)) z 64 (s .settings .interval) + cond (sel r) used 0 ≤ weight sel x s) (sym l)
-              (rw weight-r (gauge-rear sel x off (s .settings .interval) (listed s) x-in (allotmentAt s) (allotmentAt (withThread s r t)) r used same other runs fit′));
+              subst (λ (z : List ℕ). gauge sel x (allotmentAt at) z 64 (sliceAt at 64) + cond (sel r) used 0 ≤ weight sel x s) (sym l)
+              (rw weight-r (gauge-rear sel x off (sliceAt s r) (listed s) x-in (allotmentAt s) (allotmentAt at) r used same other runs
+              (sliceAt at 64) fit less));
         }
 
     stay-quiet : renewed reason used (threadAt s r) ≡ false → Quiet sel x s (charged r reason used s) (cond (sel r) used 0)
-    unfolding weight charged withRun withThread listed allotmentAt
+    unfolding weight charged withRun withThread listed allotmentAt sliceAt
     stay-quiet e =
         let t = chargedThread s reason used (threadAt s r) in
-        let same : (j : ℕ) → (j ≡ r → ⊥) → allotmentAt (withThread s r t) j ≡ allotmentAt s j = allotment-other s r t in
+        let at = withThread s r t in
+        let same : (j : ℕ) → (j ≡ r → ⊥) → allotmentAt at j ≡ allotmentAt s j = allotment-other s r t in
         record {
           same-settings = refl;
           same-allotment = same x (λ z. other (sym z));
-          lighter = rw weight-r (gauge-stay sel x off (s .settings .interval) (listed s) x-in (allotmentAt s) (allotmentAt (withThread s r t)) r used same other runs fit′ (le-of-eq (charged-left s r reason used (in-threads s k r r-adm) e)));
+          lighter =
+              rw weight-r (gauge-stay sel x off (sliceAt s r) (listed s) x-in (allotmentAt s) (allotmentAt at) r used same other runs
+              (sliceAt at 64) fit less (le-of-eq (charged-left s r reason used (in-threads s k r r-adm) e)));
         }
 
     -- every way a report by another thread can end
@@ -215,18 +196,20 @@ module _ (sel : ℕ → Bool) (x : ℕ) (off : sel x ≡ false) (s : Scheduler) 
     bound : allotmentAt s x ≤ f * s .settings .thousandth
     bound = subst (λ (j : ℕ). allotmentAt s x ≤ j * s .settings .thousandth) is-f (below-quantum s k x adm)
 
-    weight-x : weight sel x s ≡ gauge sel x (allotmentAt s) (listed s) x (s .settings .interval)
+    weight-x : weight sel x s ≡ gauge sel x (allotmentAt s) (listed s) x (sliceAt s x)
     unfolding weight
-    weight-x = ap (λ (j : ℕ). gauge sel x (allotmentAt s) (listed s) j (s .settings .interval)) is-x
+    weight-x = ap (λ (j : ℕ). gauge sel x (allotmentAt s) (listed s) j (sliceAt s j)) is-x
 
     self-stay : renewed 0 used (threadAt s x) ≡ false → potential f h sel x (charged x 0 used s) ≤ potential f h sel x s + h * used
-    unfolding weight potential charged withRun withThread listed allotmentAt
+    unfolding weight potential charged withRun withThread listed allotmentAt sliceAt
     self-stay e =
         let t = chargedThread s 0 used (threadAt s x) in
+        let at = withThread s x t in
         rw weight-x
-        (run-step f h (f * s .settings .thousandth) used (gauge sel x (allotmentAt s) (listed s) x (s .settings .interval)) (gauge sel x (allotmentAt (withThread s x t)) (listed s) 64 (s .settings .interval)) (allotmentAt s x) (allotmentAt (withThread s x t) x)
+        (run-step f h (f * s .settings .thousandth) used (gauge sel x (allotmentAt s) (listed s) x (sliceAt s x))
+        (gauge sel x (allotmentAt at) (listed s) 64 (sliceAt at 64)) (allotmentAt s x) (allotmentAt at x)
         (charged-left s x 0 used (in-threads s k x adm) e)
-        (gauge-self sel x off (s .settings .interval) (listed s) x-in (allotmentAt s) (allotmentAt (withThread s x t)) (allotment-other s x t)))
+        (gauge-self sel x off (sliceAt s x) (listed s) x-in (allotmentAt s) (allotmentAt at) (sliceAt at 64) (allotment-other s x t)))
 
     -- the whole allotment was used
     used-up : renewed 0 used (threadAt s x) ≡ true → used ≡ allotmentAt s x
@@ -237,17 +220,21 @@ module _ (sel : ℕ → Bool) (x : ℕ) (off : sel x ≡ false) (s : Scheduler) 
     each n u = below-quantum s k n (member-admitted s k n u)
 
     self-turn : renewed 0 used (threadAt s x) ≡ true → potential f h sel x (toRear x (charged x 0 used s)) ≤ potential f h sel x s + h * used
-    unfolding weight potential toRear charged withList withRun withThread listed rear allotmentAt
+    unfolding weight potential toRear charged withList withRun withThread listed rear allotmentAt sliceAt
     self-turn e =
         let t = chargedThread s 0 used (threadAt s x) in
-        let al = allotmentAt (withThread s x t) in
+        let at = withThread s x t in
+        let al = allotmentAt at in
         let l = take-rear (s .order) (s .count) x (fits s k) (k .once) x-in in
-        subst (λ (z : List ℕ). f * gauge sel x al z 64 (s .settings .interval) + h * (f * s .settings .thousandth - al x) ≤ potential f h sel x s + h * used) (sym l)
-        (turn-step f h (s .settings .thousandth) used (weight sel x s) (gauge sel x al (without x (listed s) ++ x ∷ []) 64 (s .settings .interval)) (allotmentAt s x) (al x)
+        subst (λ (z : List ℕ). f * gauge sel x al z 64 (sliceAt at 64) + h * (f * s .settings .thousandth - al x)
+        ≤ potential f h sel x s + h * used) (sym l)
+        (turn-step f h (s .settings .thousandth) used (weight sel x s) (gauge sel x al (without x (listed s) ++ x ∷ []) 64 (sliceAt at 64))
+        (allotmentAt s x) (al x)
         (charged-full s x 0 used (in-threads s k x adm) e ∙ ap (λ (j : ℕ). j * s .settings .thousandth) is-f)
         (used-up e)
         bound
-        (gauge-turn sel x off (s .settings .interval) (listed s) x-in (allotmentAt s) al (allotment-other s x t) (reservationAt s) (s .settings .thousandth) h each sum))
+        (gauge-turn sel x off (sliceAt s x) (listed s) x-in (allotmentAt s) al (sliceAt at 64) (allotment-other s x t) (reservationAt s)
+        (s .settings .thousandth) h each sum))
 
     self-report : potential f h sel x (reported x 0 used s) ≤ potential f h sel x s + h * used
     unfolding reported

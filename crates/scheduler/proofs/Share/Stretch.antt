@@ -28,9 +28,13 @@ pub record Reserved (g y : ℕ) (s : Scheduler) : Type 0 where
 abbrev pub Attributed : ℕ → Scheduler → Type 0
 Attributed last s = (s .running ≡ 64 → ⊥) → s .running ≡ last
 
--- the events of a call with a given reply, and of the calls after it
-abbrev pub events : Call → List Call → Reply → List Event
-events c cs r = record { call = c; reply = r } ∷ trace (r .state) cs
+-- the events of a call on s with a reply, and of the calls after it
+abbrev pub events : Call → List Call → Scheduler → Reply → List Event
+events c cs s r = record { call = c; given = s; reply = r } ∷ trace (r .state) cs
+
+-- the reply to a call, by whether it is accepted
+abbrev pub replied : Call → Scheduler → Bool → Reply
+replied c s b = cond b (accept c s) (refuse (refusal c s) s)
 
 -- what a stretch from s to z owes: the others' ticks and what is left of the potential
 unfoldable pub Bound : (f h : ℕ) → (ℕ → Bool) → (x y : ℕ) → Scheduler → Scheduler → ℕ → List Event → Type 0
@@ -40,7 +44,7 @@ Bound f h sel x y s z last es =
 
 -- a refused call changes nothing
 refused-bound : (f h : ℕ) (sel : ℕ → Bool) (x y : ℕ) (s : Scheduler) (last : ℕ) (c : Call) (cs : List Call) (k : ℕ) → eqb k 0 ≡ false
-    → Bound f h sel x y s (final s cs) last (trace s cs) → Bound f h sel x y s (final s cs) last (events c cs (refuse k s))
+    → Bound f h sel x y s (final s cs) last (trace s cs) → Bound f h sel x y s (final s cs) last (events c cs s (refuse k s))
 unfolding Bound throughout ticksIn named accepted refuse
 refused-bound f h sel x y s last c cs k q ih =
     rw q (λ a b. omega (arith, ih a b))
@@ -62,7 +66,7 @@ module _ (f g h : ℕ) (sel : ℕ → Bool) (x y : ℕ) (off : sel x ≡ false)
 
   accepted-bound : (s : Scheduler) (last : ℕ) (c : Call) (cs : List Call) → refusal c s ≡ 0 → Attributed last s → Guarded f x s → Reserved g y s
       → ((s : Scheduler) (last : ℕ) → Attributed last s → Guarded f x s → Reserved g y s → Bound f h sel x y s (final s cs) last (trace s cs))
-      → Bound f h sel x y s (final (effect c s) cs) last (events c cs (accept c s))
+      → Bound f h sel x y s (final (effect c s) cs) last (events c cs s (accept c s))
   unfolding Bound throughout ticksIn named accepted accept next StepBound
   accepted-bound s last c cs e at k r ih a b =
       let s′ = effect c s in
@@ -81,7 +85,8 @@ module _ (f g h : ℕ) (sel : ℕ → Bool) (x y : ℕ) (off : sel x ≡ false)
   unfolding trace final step Bound ticksIn accept refuse
   stretch [] s last at k r = λ a b. omega arith
   stretch (c ∷ cs) s last at k r =
-      by (λ b. eqb (refusal c s) 0 ≡ b → Bound f h sel x y s (final ((cond b (accept c s) (refuse (refusal c s) s)) .state) cs) last (events c cs (cond b (accept c s) (refuse (refusal c s) s)))) (eqb (refusal c s) 0)
+      by (λ b. eqb (refusal c s) 0 ≡ b → Bound f h sel x y s (final ((replied c s b) .state) cs) last (events c cs s (replied c s b)))
+      (eqb (refusal c s) 0)
       (λ q _. accepted-bound s last c cs (eqb-true (refusal c s) 0 q) at k r (stretch cs))
       (λ q _. refused-bound f h sel x y s last c cs (refusal c s) q (stretch cs s last at k r))
       refl

@@ -22,10 +22,10 @@ use Rattle.scheduler.specs.Sound.{sound}
 use Rattle.scheduler.specs.Refusals.{dispatch, checks, refusal}
 use Rattle.scheduler.specs.Effects.{chosen, passedOver, effect}
 use Rattle.scheduler.specs.Rule.{Reply, isDispatch, accept, step}
-use Rattle.scheduler.specs.Answers.{lineOf, replyOf}
+use Rattle.scheduler.specs.Answers.{numbersOf, replyOf}
 use Rattle.scheduler.proofs.Facts.{Facts, facts, length-listed}
 use Rattle.scheduler.proofs.Passed.{passes, dispatch-passed}
-use Rattle.scheduler.proofs.ListRule.{step-state}
+use Rattle.scheduler.proofs.Steps.{step-state}
 use Rattle.scheduler.proofs.threads.Replies.{answered, refused}
 
 -- an entry of the list is a thread's number
@@ -70,20 +70,20 @@ module _ (s : Scheduler) (e : refusal dispatch s ≡ 0) where
         ∙ List·getD-eq-default (listed s) 64 (omega (arith, length-listed s dispatch-facts, q))
 
     dispatch-idle : n ≡ s .count → replyOf (answered (Idle n) s) ≡ step dispatch s
-    unfolding replyOf lineOf withRun
+    unfolding replyOf numbersOf withRun
     dispatch-idle h =
-        ap (λ (j : ℕ). lineOf (Idle j) s) q
-        ∙ ap (λ (r : ℕ). lineOf (Idle (passedOver s)) (withRun s r (s .meter))) (dispatch-passed s ((passes dispatch s e) .1))
+        ap (λ (j : ℕ). numbersOf (Idle j) s) q
+        ∙ ap (λ (r : ℕ). numbersOf (Idle (passedOver s)) (withRun s r (s .meter))) (dispatch-passed s ((passes dispatch s e) .1))
         ∙ sym (replied ∙ ap (taking s) (none h))
 
     dispatch-run : n < s .count → (a : Answer) → a ≡ Run (getD (s .order) n 0) (min ((threadAt s (getD (s .order) n 0)) .allotment) (s .settings .interval)) n
         → replyOf (answered a (withRun s (getD (s .order) n 0) (s .meter))) ≡ step dispatch s
-    unfolding replyOf lineOf sliceAt allotmentAt
+    unfolding replyOf numbersOf sliceAt allotmentAt
     dispatch-run h a w =
         let x = getD (s .order) n 0 in
         let off : eqb x 64 ≡ false = ne-eqb x 64 (λ z. omega (arith, entry s dispatch-facts n h)) in
-        ap (λ (b : Answer). lineOf b (withRun s x (s .meter))) w
-        ∙ ap (λ (j : ℕ). lineOf (Run x (min ((threadAt s x) .allotment) (s .settings .interval)) j) (withRun s x (s .meter))) q
+        ap (λ (b : Answer). numbersOf b (withRun s x (s .meter))) w
+        ∙ ap (λ (j : ℕ). numbersOf (Run x (min ((threadAt s x) .allotment) (s .settings .interval)) j) (withRun s x (s .meter))) q
         ∙ sym (replied ∙ ap (taking s) (sym (found h)) ∙ rw off)
 
 -- The number k, and how much of the list is looked at.

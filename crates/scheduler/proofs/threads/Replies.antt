@@ -26,21 +26,21 @@ use Rattle.scheduler.specs.Sound.{sound}
 use Rattle.scheduler.specs.Refusals.{Call, wake, remove, checks, refusal}
 use Rattle.scheduler.specs.Effects.{rear, offList, wokenThread, effect}
 use Rattle.scheduler.specs.Rule.{isDispatch, accept, refuse, step}
-use Rattle.scheduler.specs.Answers.{lineOf, replyOf}
+use Rattle.scheduler.specs.Answers.{numbersOf, replyOf}
 use Rattle.scheduler.proofs.Facts.{Facts, facts, length-listed}
 use Rattle.scheduler.proofs.Passed.{passes, remove-passed, wake-passed}
-use Rattle.scheduler.proofs.ListRule.{step-state, refused-state}
+use Rattle.scheduler.proofs.Steps.{step-state, refused-state}
 
 abbrev pub answered : Answer → Scheduler → Answered
 answered a s = record { answer = a; state = s }
 
 pub refused : (c : Call) (s : Scheduler) (k : ℕ) → k ≡ refusal c s → (k ≡ 0 → ⊥) → replyOf (answered (Refused k) s) ≡ step c s
-unfolding replyOf lineOf refuse
+unfolding replyOf numbersOf refuse
 refused c s k e ne = ap (λ (j : ℕ). refuse j s) e ∙ sym (refused-state c s (λ z. ne (e ∙ z)))
 
 pub accepted : (c : Call) (s s′ : Scheduler) → isDispatch c ≡ false → refusal c s ≡ 0 → s′ ≡ effect c s → replyOf (answered Accepted s′) ≡ step c s
-unfolding replyOf lineOf accept
-accepted c s s′ d e q = ap (λ (z : Scheduler). lineOf Accepted z) q ∙ sym (step-state c s e ∙ rw d)
+unfolding replyOf numbersOf accept
+accepted c s s′ d e q = ap (λ (z : Scheduler). numbersOf Accepted z) q ∙ sym (step-state c s e ∙ rw d)
 
 -- a call that is no dispatch, with the answer of its number: without a refusal the state is the effect's, and with one it is the same
 pub settled : (c : Call) (s s′ : Scheduler) → isDispatch c ≡ false → (k : ℕ) → k ≡ refusal c s → (a : Answer) → a ≡ cond (eqb k 0) Accepted (Refused k)

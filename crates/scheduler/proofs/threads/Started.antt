@@ -12,8 +12,8 @@ use Rattle.scheduler.specs.State.{stateOf}
 use Rattle.scheduler.specs.Refusals.{startRefusal}
 use Rattle.scheduler.specs.Effects.{started, unstarted}
 use Rattle.scheduler.specs.Rule.{refuse, startReply}
-use Rattle.scheduler.specs.Answers.{lineOf, replyOf}
-use Rattle.scheduler.proofs.Preserved.{start-passed}
+use Rattle.scheduler.specs.Answers.{numbersOf, replyOf}
+use Rattle.scheduler.proofs.Passed.{start-passed}
 use Rattle.scheduler.proofs.threads.Replies.{answered}
 
 module _ (m p : ℕ) where
@@ -27,12 +27,12 @@ module _ (m p : ℕ) where
     pub start-done : startRefusal m p ≡ 0
         → replyOf (answered Accepted (stateOf (z .threads) (z .order) (set (z .groups) 0 (record { ceiling = 1000; parent = 0; opened = 1 })) (z .meter) (record { thousandth = m; interval = p }) (z .count) 64))
         ≡ startReply m p
-    unfolding replyOf lineOf startReply refuse started unstarted
+    unfolding replyOf numbersOf startReply refuse started unstarted
     start-done e =
         ap (λ (y : Scheduler). replyOf (answered Accepted (stateOf (y .threads) (y .order) (set (y .groups) 0 (record { ceiling = 1000; parent = 0; opened = 1 })) (y .meter) (record { thousandth = m; interval = p }) (y .count) 64))) q
         ∙ sym (rw e)
 
     pub start-refused : (k : ℕ) → k ≡ startRefusal m p → (k ≡ 0 → ⊥) → replyOf (answered (Refused k) z) ≡ startReply m p
-    unfolding replyOf lineOf startReply refuse
+    unfolding replyOf numbersOf startReply refuse
     start-refused k e ne =
         ap (λ (y : Scheduler). refuse k y) q ∙ ap (λ (j : ℕ). refuse j unstarted) e ∙ sym (rw (ne-eqb (startRefusal m p) 0 (λ u. ne (e ∙ u))))

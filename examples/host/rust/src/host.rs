@@ -40,12 +40,12 @@ impl Host {
         let (number, thread, slice, before) = match answer {
             Err(refusal) => (refusal.number(), 0, 0, 0),
             Ok(None) => (0, 0, 0, 0),
-            Ok(Some(Dispatch::Idle { passed })) => (0, 64, 0, passed),
+            Ok(Some(Dispatch::Idle { before })) => (0, 64, 0, before),
             Ok(Some(Dispatch::Run {
                 thread,
                 slice,
-                passed,
-            })) => (0, thread, slice, passed),
+                before,
+            })) => (0, thread, slice, before),
         };
         let record = self.record;
         writeln!(self.out, "{record} {number} {thread} {slice} {before}")?;

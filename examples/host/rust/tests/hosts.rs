@@ -219,3 +219,37 @@ fn bad_arguments() {
     }
     assert!(!Path::new(taken).exists());
 }
+
+/// What git says of the tree.
+fn tree() -> Vec<u8> {
+    let mut git = Command::new("git");
+    git.args(["status", "--porcelain"]).current_dir(root());
+    git.output().unwrap().stdout
+}
+
+/// The commands of the page run as they stand there, one after the other, and leave nothing in the tree. What `rt` makes is there.
+#[test]
+fn the_page() {
+    let page = fs::read_to_string(root().join("examples/host/README.md")).unwrap();
+    let commands: Vec<&str> = page
+        .lines()
+        .filter_map(|line| line.strip_prefix("    "))
+        .filter(|line| !line.starts_with("rt "))
+        .collect();
+    assert_eq!(commands.len(), 5, "{commands:?}");
+    let before = tree();
+    let mut printed = Vec::new();
+    for command in commands {
+        let mut shell = Command::new("sh");
+        let done = shell.args(["-c", command]).current_dir(root()).output();
+        let done = done.unwrap();
+        let told = String::from_utf8_lossy(&done.stderr).into_owned();
+        assert!(done.status.success(), "{command}: {told}");
+        printed.push(done.stdout);
+    }
+    assert_eq!(tree(), before);
+    let [_, c, rust, _, replayed] = &printed[..] else {
+        panic!("{}", printed.len());
+    };
+    assert!(c == rust && !replayed.is_empty() && c.starts_with(replayed));
+}

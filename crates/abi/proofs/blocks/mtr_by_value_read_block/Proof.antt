@@ -2,7 +2,7 @@ use mathlib.Core.Path.{_≡_, sym, ap, subst, _∙_}
 use Prim.Native.Nat.{ℕ, _≤_}
 use native.Mathlib.Omega.{arith}
 use Rattle.block.specs.declared.Reading.{Reading}
-use Rattle.block.specs.Block.{numberOf, readOf}
+use Rattle.block.specs.Block.{refusalOf, readOf}
 use Rattle.block.proofs.Theorems.{read-few}
 use Rattle.abi.specs.declared.blocks.Found.{Found}
 use Rattle.abi.specs.Blocks.{foundOf}

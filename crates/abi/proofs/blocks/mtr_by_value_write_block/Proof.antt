@@ -1,5 +1,5 @@
 use mathlib.Core.Path.{ap, _∙_}
-use Rattle.block.specs.Block.{numberOf}
+use Rattle.block.specs.Block.{refusalOf}
 use borrow.Author.Needs.{needs}
 use Rattle.abi.proofs.blocks.mtr_by_value_write_block.Statement.{statement}
 use Rattle.abi.proofs.blocks.mtr_by_value_write_block.Tie as tie
@@ -18,7 +18,7 @@ same-length : tie.Need-same-length
 same-length c = search needs
 
 returns : tie.Need-returns
-returns c = (c .number .ensures ∙ ap numberOf (c .before .before .before .write .ensures .0), c .before .before .before .write .ensures .1)
+returns c = (c .number .ensures ∙ ap refusalOf (c .before .before .before .write .ensures .0), c .before .before .before .write .ensures .1)
 
 pub mtr-by-value-write-block-spec : {M : Type 1} → statement M
 mtr-by-value-write-block-spec = tie.close (tie.spec write-requires number-requires same-length returns)

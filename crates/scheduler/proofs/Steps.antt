@@ -1,0 +1,72 @@
+-- Small laws of the definitions: the state after a call, accepted or refused, by cases on its refusal; and a thread's allotment and
+-- slice after a thread is replaced, charged or woken, read off the table.
+use Prim.Native.Nat.{ℕ, _+_, _-_, _*_, min, _<_}
+use mathlib.Core.Path.{_≡_, refl, ap, _∙_}
+use mathlib.Core.Bool.{Bool, true, false, cond}
+use native.Mathlib.Omega.{arith}
+use lib.ListN.{length}
+use lib.Dec.{T, eqb}
+use borrow.Author.Tests.{eqb-true, eqb-false, ne-eqb}
+use Rattle.base.proofs.Bools.{by}
+use Rattle.scheduler.specs.declared.Thread.{Thread}
+use Rattle.scheduler.specs.declared.Scheduler.{Scheduler}
+use Rattle.scheduler.specs.State.{threadAt, admittedAt, reservationAt, allotmentAt, sliceAt, withThread}
+use Rattle.scheduler.specs.Refusals.{Call, refusal}
+use Rattle.scheduler.specs.Effects.{wokenThread, renewed, chargedThread}
+use Rattle.scheduler.specs.Rule.{accept, refuse, step}
+use Rattle.scheduler.proofs.Facts.{Facts, in-threads, thread-other, thread-same}
+use Rattle.scheduler.proofs.Passed.{not-used-up}
+
+-- the state after a call, accepted or refused
+pub step-state : (c : Call) (s : Scheduler) → refusal c s ≡ 0 → step c s ≡ accept c s
+unfolding step
+step-state c s e = rw e
+
+pub refused-state : (c : Call) (s : Scheduler) → (refusal c s ≡ 0 → ⊥) → step c s ≡ refuse (refusal c s) s
+unfolding step
+refused-state c s ne = rw (ne-eqb (refusal c s) 0 ne)
+
+-- A refused call returns the state it was given.
+pub refused-same : (c : Call) (s : Scheduler) → (refusal c s ≡ 0 → ⊥) → (step c s) .state ≡ s
+unfolding refuse
+refused-same c s ne = rw (refused-state c s ne)
+
+-- allotments after a change of one thread
+pub allotment-other : (s : Scheduler) (n : ℕ) (t : Thread) (j : ℕ) → (j ≡ n → ⊥) → allotmentAt (withThread s n t) j ≡ allotmentAt s j
+unfolding allotmentAt
+allotment-other s n t j a = ap (λ (t : Thread). t .allotment) (thread-other s n t j a)
+
+pub slice-other : (s : Scheduler) (n : ℕ) (t : Thread) (j : ℕ) → (j ≡ n → ⊥) → sliceAt (withThread s n t) j ≡ sliceAt s j
+unfolding sliceAt withThread
+slice-other s n t j a = ap (λ (z : ℕ). min z (s .settings .interval)) (allotment-other s n t j a)
+
+pub allotment-same : (s : Scheduler) (n : ℕ) (t : Thread) → n < length (s .threads) → allotmentAt (withThread s n t) n ≡ t .allotment
+unfolding allotmentAt
+allotment-same s n t h = ap (λ (t : Thread). t .allotment) (thread-same s n t h)
+
+pub charged-allotment : (s : Scheduler) (r reason used : ℕ) → r < length (s .threads)
+    → allotmentAt (withThread s r (chargedThread s reason used (threadAt s r))) r
+    ≡ cond (renewed reason used (threadAt s r)) (reservationAt s r * s .settings .thousandth) (allotmentAt s r - used)
+unfolding chargedThread reservationAt allotmentAt
+charged-allotment s r reason used h = allotment-same s r (chargedThread s reason used (threadAt s r)) h
+
+-- the charged thread: what is left, or a full allotment
+pub charged-left : (s : Scheduler) (r reason used : ℕ) → r < length (s .threads) → renewed reason used (threadAt s r) ≡ false
+    → allotmentAt (withThread s r (chargedThread s reason used (threadAt s r))) r + used ≡ allotmentAt s r
+unfolding chargedThread allotmentAt
+charged-left s r reason used h e =
+    let q = charged-allotment s r reason used h ∙ ap (λ (b : Bool). cond b (reservationAt s r * s .settings .thousandth) (allotmentAt s r - used)) e in
+    omega (arith, q, not-used-up reason used (threadAt s r) e)
+
+pub charged-full : (s : Scheduler) (r reason used : ℕ) → r < length (s .threads) → renewed reason used (threadAt s r) ≡ true
+    → allotmentAt (withThread s r (chargedThread s reason used (threadAt s r))) r ≡ reservationAt s r * s .settings .thousandth
+charged-full s r reason used h e =
+    charged-allotment s r reason used h ∙ ap (λ (b : Bool). cond b (reservationAt s r * s .settings .thousandth) (allotmentAt s r - used)) e
+
+pub woken-allotment : (s : Scheduler) → Facts s → (n : ℕ) → T (admittedAt s n) → (j : ℕ) → allotmentAt (withThread s n (wokenThread s (threadAt s n))) j ≡ allotmentAt s j
+unfolding allotmentAt wokenThread
+woken-allotment s k n a j =
+    by (λ b. eqb j n ≡ b → allotmentAt (withThread s n (wokenThread s (threadAt s n))) j ≡ allotmentAt s j) (eqb j n)
+    (λ e _. rw (eqb-true j n e) (allotment-same s n (wokenThread s (threadAt s n)) (in-threads s k n a)))
+    (λ e _. allotment-other s n (wokenThread s (threadAt s n)) j (eqb-false j n e))
+    refl

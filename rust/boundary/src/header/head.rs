@@ -1,0 +1,156 @@
+//! The header's first comment, what it asks of the compiler, and its end.
+
+use super::PREFIX;
+use crate::costs::Cost;
+use crate::interface::Interface;
+use crate::COMMAND;
+
+/// Everything above the constants.
+pub fn print(interface: &Interface, costs: &[Cost]) -> String {
+    let mut table = String::new();
+    for cost in costs {
+        let name = format!("mtr_{}", cost.name);
+        let line = format!(
+            " *     {name:<18}{:>8}{:>16}\n",
+            cost.stack, cost.instructions
+        );
+        table += &line;
+    }
+    let named = |name: &str| {
+        let mut names = interface.families.iter().flat_map(|f| &f.names);
+        names.find(|n| n.name == name).map_or(0, |n| n.value)
+    };
+    let parts = ["MAJOR", "MINOR", "PATCH"].map(|part| named(&format!("VERSION_{part}")));
+    let version = parts.map(|part| part.to_string()).join(".");
+    let text =
+        format!("/* The version as text. */\n#define {PREFIX}VERSION_TEXT \"{version}\"\n\n");
+    HEAD.replace("@COMMAND@", COMMAND)
+        .replace("@VERSION@", &version)
+        .replace(" *     @TABLE@\n", &table)
+        + &text
+}
+
+const HEAD: &str = r#"/*
+ * The move-to-rear list scheduler (MTR-LS), version @VERSION@, for C11 and C++11 or
+ * later on x86-64.
+ *
+ * Written from the Rattle sources; do not edit. To renew it:
+ *     @COMMAND@
+ *
+ * The scheduler's state is a struct that the host holds. A call takes a pointer
+ * to it and returns its answer, MTR_ACCEPTED or one of MTR_REFUSED_*. A refused
+ * call leaves the state, and everything else that it was lent, as they were:
+ *
+ *     static mtr_scheduler state;
+ *     mtr_run run;
+ *     mtr_answer answer = mtr_start(&state, 100, 20000);
+ *     ...
+ *     answer = mtr_dispatch(&state, &run);
+ *     if (answer != MTR_ACCEPTED)
+ *         log(mtr_answer_text(answer));
+ *
+ * Every value of every argument is allowed, also a state of arbitrary bytes: it
+ * is refused with MTR_REFUSED_UNSOUND. A pointer is not null, is aligned and is
+ * valid for the length that goes with it, and no two overlap. One tick is a
+ * microsecond; reservations and ceilings are thousandths of the core.
+ *
+ * Threads and interrupts. The library has no memory of its own, allocates none,
+ * and of libc calls the mem functions alone. A call touches what it is handed
+ * and the stack, nothing else, so that calls on different states are
+ * independent: on several cores, in threads, in interrupt handlers. A call on a
+ * state is not atomic. Where two could meet on one state, the host keeps them
+ * apart, with a lock, or with interrupts off where a handler makes one of them.
+ * A handler that cannot wait leaves a note (the number to wake) to the loop that
+ * dispatches. A call never waits and never calls back.
+ *
+ * Machine. The library is compiled for the System V calling convention. It uses
+ * the general and the SSE registers (no AVX, no x87, no thread-local storage)
+ * and the red zone of 128 bytes below the stack pointer. A kernel keeps the SSE
+ * registers of what a handler interrupts before the handler makes a call, and
+ * lets a handler begin below the red zone or on a stack of its own.
+ *
+ * Costs. Stack is in bytes, from the caller's frame on: the call's arguments and
+ * reply, and the library's frames. Instructions are those of the dearest case
+ * that was measured, with 64 threads and 16 groups; the time of a call has no
+ * other bound than these and the machine's.
+ *
+ *     call                 stack    instructions
+ *     @TABLE@
+ */
+#ifndef MTR_H
+#define MTR_H
+
+#if defined(__cplusplus)
+#if __cplusplus < 201103L
+#error "mtr.h needs C++11 or later"
+#endif
+#elif !defined(__STDC_VERSION__) || __STDC_VERSION__ < 201112L
+#error "mtr.h needs C11 or later"
+#endif
+#if !defined(__x86_64__)
+#error "the library is for x86-64"
+#endif
+#if defined(__ILP32__)
+#error "the library is for pointers of 64 bits"
+#endif
+#if defined(_WIN32)
+#error "the library is for the System V calling convention"
+#endif
+
+#include <stdbool.h>
+#include <stddef.h>
+#include <stdint.h>
+
+#ifdef __cplusplus
+extern "C" {
+#define MTR_ASSERT static_assert
+#define MTR_ALIGNOF alignof
+#define MTR_SIZEOF(type, field) sizeof(type::field)
+#define MTR_CAST(type, value) static_cast<type>(value)
+#define MTR_UNSIGNED : uint32_t
+#else
+#define MTR_ASSERT _Static_assert
+#define MTR_ALIGNOF _Alignof
+#define MTR_SIZEOF(type, field) sizeof(((type *)0)->field)
+#define MTR_CAST(type, value) ((type)(value))
+#define MTR_UNSIGNED
+#endif
+
+/* A result that must be looked at. */
+#if defined(__GNUC__)
+#define MTR_MUST_USE __attribute__((warn_unused_result))
+#elif defined(__cplusplus) && __cplusplus >= 201703L
+#define MTR_MUST_USE [[nodiscard]]
+#elif !defined(__cplusplus) && __STDC_VERSION__ >= 202311L
+#define MTR_MUST_USE [[nodiscard]]
+#else
+#define MTR_MUST_USE
+#endif
+
+/* A struct's size and alignment, and a field's offset and size, in bytes. */
+#define MTR_STRUCT(type, size, align)                                          \
+    MTR_ASSERT(sizeof(type) == size && MTR_ALIGNOF(type) == align, #type)
+#define MTR_FIELD(type, field, offset, size)                                   \
+    MTR_ASSERT(offsetof(type, field) == offset &&                              \
+                   MTR_SIZEOF(type, field) == size,                            \
+               #type "." #field)
+
+MTR_STRUCT(size_t, 8, 8);
+
+"#;
+
+pub const TAIL: &str = r#"#undef MTR_FIELD
+#undef MTR_STRUCT
+#undef MTR_MUST_USE
+#undef MTR_UNSIGNED
+#undef MTR_CAST
+#undef MTR_SIZEOF
+#undef MTR_ALIGNOF
+#undef MTR_ASSERT
+
+#ifdef __cplusplus
+}
+#endif
+
+#endif
+"#;

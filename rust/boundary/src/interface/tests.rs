@@ -1,0 +1,242 @@
+//! Interfaces of small sources.
+
+use super::*;
+use crate::Error;
+
+const SCHEDULER: &str = "
+pub mod run;
+#[repr(C)]
+pub struct Settings { pub a: u8, pub b: u64, pub c: u16 }
+impl Settings {
+    pub const THOUSANDTH: u32 = 100;
+    pub const INTERVAL: u32 = 20000;
+    pub const THOUSANDTH_MOST: u32 = 1000;
+    pub const INTERVAL_MOST: u32 = 1000000;
+}
+#[repr(C)]
+pub struct Scheduler { pub settings: [Settings; 3], pub order: [u8; 5] }
+impl Scheduler {
+    pub const THREADS: u32 = 64;
+    pub const GROUPS: u32 = 16;
+    pub const WHOLE: u32 = 1000;
+    pub const METER_LIMIT: u64 = 7;
+    pub const METER_MOST: u64 = 8;
+}
+pub enum Answer { Done }
+pub struct Loose { pub x: u32 }
+#[repr(C)]
+pub struct Hidden {
+    pub x: u32,
+    y: u32,
+}
+#[repr(C)]
+pub struct Round { pub x: [Round; 1] }
+#[repr(C)]
+pub struct None {}
+";
+const RUN: &str = "
+pub const TICK: u64 = 0;
+pub const BLOCK: u64 = 1;
+pub const YIELD: u64 = 2;
+pub const EXIT: u64 = 3;
+impl Thread { pub const RUNNABLE: u8 = 1; pub const BLOCKED: u8 = 2; }
+";
+const BLOCKS: &str = "
+use record::Record;
+#[repr(C)]
+pub struct Records { pub records: [Record; 31] }
+// Writes. Refused: 17, too short; 19, no form. The area is then unchanged.
+#[no_mangle]
+pub extern \"C\" fn mtr_write(area: &mut [u8], list: Records) -> u32 {}
+";
+const DOC: &str = "// Does. Refused: nothing. All is unchanged.\n#[no_mangle]\n";
+
+/// The interface with this source as the module `calls`.
+fn with(calls: &str) -> Result<Interface, Error> {
+    let calls = calls.to_string();
+    resolve(&move |path: &str| {
+        let text = match path {
+            "crates/abi/src/lib.rt" => {
+                "pub mod blocks;\npub mod calls;\npub mod roster;\npub mod version;"
+            }
+            "crates/abi/src/calls.rt" => &calls,
+            "crates/abi/src/roster.rt" => "",
+            "crates/abi/src/version.rt" => {
+                "pub const MAJOR: u32 = 2; pub const MINOR: u32 = 3; pub const PATCH: u32 = 4;"
+            }
+            "crates/abi/src/blocks.rt" => BLOCKS,
+            "crates/scheduler/src/lib.rt" => SCHEDULER,
+            "crates/scheduler/src/threads.rt" => RUN,
+            "crates/scheduler/src/priority.rt" => {
+                "pub const LOWEST: u64 = 1; pub const HIGHEST: u64 = 10;"
+            }
+            "crates/record/src/lib.rt" => {
+                "#[repr(C)] pub struct Record { pub kind: u8, pub ticks: u32 }"
+            }
+            "crates/replay/src/lib.rt" => "pub const BLOCK: usize = 512;\nconst HALTED: u32 = 20;",
+            _ => return Err("no such file".to_string()),
+        };
+        Ok(text.to_string())
+    })
+}
+
+/// The refusal of a function with this parameter; it stands in line 4.
+fn said(parameter: &str) -> String {
+    let text = format!(
+        "use scheduler::Scheduler;\n{DOC}pub extern \"C\" fn mtr_do({parameter}) -> u32 {{}}"
+    );
+    with(&text).unwrap_err().to_string()
+}
+
+#[test]
+fn offsets() {
+    let text = format!("use scheduler::Scheduler;\n{DOC}pub extern \"C\" fn mtr_do(s: Scheduler) -> scheduler::Settings {{}}");
+    let found = with(&text).unwrap();
+    let layout: Vec<_> = found
+        .structs
+        .iter()
+        .map(|s| {
+            let offsets: Vec<u64> = s.fields.iter().map(|f| f.offset).collect();
+            (&s.name[..], s.size, s.align, offsets, s.zero)
+        })
+        .collect();
+    let wanted = [
+        ("Settings", 24, 8, vec![0, 8, 16], false),
+        ("Scheduler", 80, 8, vec![0, 72], false),
+        ("Record", 8, 4, vec![0, 4], true),
+        ("Records", 248, 4, vec![0], true),
+    ];
+    assert_eq!(layout, wanted);
+    let records = found
+        .families
+        .iter()
+        .flat_map(|f| &f.names)
+        .find(|n| n.name == "RECORDS");
+    assert_eq!(records.map(|n| n.value), Some(31));
+    let mut names = found.families.iter().flat_map(|f| &f.names);
+    let version = names.find(|n| n.name == "VERSION");
+    assert_eq!(version.map(|n| n.value), Some(20304));
+}
+
+#[test]
+fn slices() {
+    let found = with("").unwrap();
+    let [_, _, blocks, _] = &found.sections[..] else {
+        panic!("{:?}", found.sections);
+    };
+    let [write] = &blocks.functions[..] else {
+        panic!("{:?}", blocks.functions);
+    };
+    let element = Form::Number(NUMBERS[0]);
+    let slice = Pass::Slice {
+        mutable: true,
+        element,
+    };
+    assert_eq!(write.parameters[0], ("area".to_string(), slice));
+    assert_eq!(write.comment.does, "Writes.");
+}
+
+#[test]
+fn a_comment_is_needed() {
+    let found = with("#[no_mangle]\npub extern \"C\" fn mtr_do() {}");
+    assert_eq!(
+        found.unwrap_err().to_string(),
+        "crates/abi/src/calls.rt:2: the comment on mtr_do does not say what is refused"
+    );
+}
+
+#[test]
+fn types_without_a_fixed_form() {
+    let at = "crates/abi/src/calls.rt:4: ";
+    let no = "has no fixed form at the boundary: ";
+    let other = "a number, a struct of numbers or a slice has";
+    for (parameter, wanted) in [
+        ("x: f32", "the type `f32` is unknown".to_string()),
+        ("x: Answer", "the type `Answer` is unknown".to_string()),
+        (
+            "x: scheduler::Nothing",
+            "the type `scheduler::Nothing` is unknown".to_string(),
+        ),
+        (
+            "x: scheduler::Answer",
+            format!("`scheduler::Answer` {no}it is an enum; take a struct of numbers"),
+        ),
+        (
+            "x: scheduler::Loose",
+            format!("`scheduler::Loose` {no}the struct is not `#[repr(C)] pub`"),
+        ),
+        (
+            "x: bool",
+            format!("`bool` {no}a byte other than 0 and 1 is no bool; take u8"),
+        ),
+        ("x: &Scheduler", format!("`&Scheduler` {no}{other}")),
+        ("x: &mut [u8; 4]", format!("`&mut [u8; ..]` {no}{other}")),
+        ("x: (u8, u8)", format!("`(..)` {no}{other}")),
+        (
+            "x: [u8; 4]",
+            "`[u8; 4]`: an array passes in a struct only".to_string(),
+        ),
+        (
+            "x: &[&[u8]]",
+            format!("`&[u8]` {no}a slice is a parameter only"),
+        ),
+        (
+            "x: [Scheduler; N]",
+            "the length `N` is no number of this file".to_string(),
+        ),
+        (
+            "x: nowhere::Thing",
+            "crates/nowhere/src/lib.rt can't be read: no such file".to_string(),
+        ),
+    ] {
+        assert_eq!(said(parameter), format!("{at}{wanted}"));
+    }
+    assert_eq!(
+        said("x: scheduler::Round"),
+        "crates/scheduler/src/lib.rt:28: the struct `Round` holds itself"
+    );
+    assert_eq!(
+        said("x: scheduler::None"),
+        "crates/scheduler/src/lib.rt:30: the struct `None` is empty"
+    );
+    assert_eq!(
+        said("x: scheduler::Hidden"),
+        "crates/scheduler/src/lib.rt:25: the field `y` of a struct at the boundary is private"
+    );
+}
+
+#[test]
+fn names_that_clash() {
+    let text = format!(
+        "use scheduler::Scheduler;\n{DOC}pub extern \"C\" fn mtr_scheduler(s: Scheduler) {{}}"
+    );
+    assert_eq!(
+        with(&text).unwrap_err().to_string(),
+        "crates/abi/src/calls.rt:4: mtr_scheduler is also the name of the struct Scheduler in C"
+    );
+    let text = format!("#[repr(C)] pub struct Record {{ pub x: u8 }}\n{DOC}pub extern \"C\" fn mtr_do(s: Record) {{}}");
+    assert_eq!(
+            with(&text).unwrap_err().to_string(),
+            "crates/record/src/lib.rt:1: crates/abi/src/calls.rt has a struct `Record` at the boundary too"
+        );
+    let text = format!("{DOC}pub extern \"C\" fn other() {{}}");
+    assert_eq!(
+        with(&text).unwrap_err().to_string(),
+        "crates/abi/src/calls.rt:3: the name other does not begin with mtr_"
+    );
+}
+
+#[test]
+fn every_module_is_printed() {
+    let found = resolve(&|_: &str| Ok("pub mod calls;".to_string()));
+    assert_eq!(
+            found.unwrap_err().to_string(),
+            "crates/abi/src/lib.rt:1: the modules are [\"calls\"], and the sections [\"blocks\", \"calls\", \"roster\", \"version\"]"
+        );
+}
+
+#[test]
+fn names_in_c() {
+    assert_eq!(c_name("Scheduler"), "mtr_scheduler");
+    assert_eq!(c_name("LagLine"), "mtr_lag_line");
+}

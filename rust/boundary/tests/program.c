@@ -1,0 +1,146 @@
+/*
+ * Every function of mtr.h, each beside the export that it stands on: the same answer, the same state after an accepted call,
+ * and after a refused one everything as it was. Compiled as C and as C++.
+ */
+#include <mtr.h>
+#include <mtr.h>
+#include <stdio.h>
+#include <string.h>
+
+#ifdef __cplusplus
+#define CAST(type, value) static_cast<type>(value)
+#else
+#define CAST(type, value) ((type)(value))
+#endif
+
+static unsigned failures;
+
+static void hold(bool is, const char *what, unsigned line)
+{
+    if (!is) {
+        printf("line %u: %s\n", line, what);
+        failures++;
+    }
+}
+#define HOLD(is) hold((is), #is, CAST(unsigned, __LINE__))
+
+static bool same(const mtr_scheduler *a, const mtr_scheduler *b)
+{
+    return memcmp(a, b, sizeof *a) == 0;
+}
+
+/* A call that changes the state, and the export's reply for the state before it. */
+static void changed(mtr_answer answer, mtr_answer wanted, const mtr_scheduler *before, const mtr_scheduler *after,
+    const mtr_reply *reply, unsigned line)
+{
+    hold(answer == wanted, mtr_answer_text(answer), line);
+    hold(reply->answer == wanted, "the export's answer", line);
+    hold(same(after, answer == MTR_ACCEPTED ? &reply->state : before), "the state afterwards", line);
+}
+#define CHANGED(wanted, name, ...)                                                                                                   \
+    do {                                                                                                                             \
+        const mtr_scheduler before = state;                                                                                          \
+        const mtr_reply reply = mtr_by_value_##name(before, __VA_ARGS__);                                                            \
+        const mtr_answer answer = mtr_##name(&state, __VA_ARGS__);                                                                   \
+        changed(answer, wanted, &before, &state, &reply, CAST(unsigned, __LINE__));                                                        \
+    } while (0)
+
+static mtr_scheduler state;
+
+static mtr_run run_of(uint32_t thread, uint32_t slice, uint32_t before)
+{
+    const mtr_run run = { thread, slice, before };
+    return run;
+}
+
+static void dispatch(mtr_answer wanted, mtr_run expected)
+{
+    const mtr_scheduler before = state;
+    const mtr_reply reply = mtr_by_value_dispatch(before);
+    mtr_run run = { 77, 77, 77 };
+    const mtr_answer answer = mtr_dispatch(&state, &run);
+    changed(answer, wanted, &before, &state, &reply, CAST(unsigned, __LINE__));
+    HOLD(run.thread == expected.thread && run.slice == expected.slice && run.before == expected.before);
+}
+
+static void calls(void)
+{
+    const mtr_scheduler zeros = state;
+    CHANGED(MTR_REFUSED_UNSOUND, wake, 5);
+    HOLD(!mtr_sound(&state));
+    HOLD(mtr_start(&state, 0, 20000) == MTR_REFUSED_SETTINGS && same(&state, &zeros));
+    HOLD(mtr_start(&state, MTR_DEFAULT_THOUSANDTH, MTR_DEFAULT_INTERVAL) == MTR_ACCEPTED && mtr_sound(&state));
+    CHANGED(MTR_ACCEPTED, open, 1, 0, 300);
+    CHANGED(MTR_REFUSED_GROUP_NUMBER, open, 1, 0, 300);
+    CHANGED(MTR_ACCEPTED, admit, 5, 0, 500);
+    CHANGED(MTR_ACCEPTED, admit, 7, 1, 100);
+    CHANGED(MTR_REFUSED_NO_ROOM, admit, 8, 1, 201);
+    CHANGED(MTR_REFUSED_GROUP_IN_USE, close, 1);
+    dispatch(MTR_ACCEPTED, run_of(5, 20000, 0));
+    dispatch(MTR_REFUSED_BUSY, run_of(77, 77, 77));
+    CHANGED(MTR_REFUSED_OVER_SLICE, report, MTR_REASON_TICK, 20001);
+    CHANGED(MTR_ACCEPTED, report, MTR_REASON_BLOCK, 12000);
+    dispatch(MTR_ACCEPTED, run_of(7, 10000, 1));
+    CHANGED(MTR_REFUSED_THREAD_RUNNING, remove, 7);
+    CHANGED(MTR_ACCEPTED, wake, 5);
+    CHANGED(MTR_REFUSED_NOT_BLOCKED, wake, 5);
+    CHANGED(MTR_ACCEPTED, report, MTR_REASON_EXIT, 8000);
+    CHANGED(MTR_ACCEPTED, close, 1);
+    CHANGED(MTR_ACCEPTED, admit, 9, 0, 200);
+}
+
+static void figures(void)
+{
+    const mtr_scheduler before = state;
+    uint32_t number = 77;
+    HOLD(mtr_priority(0, &number) == MTR_REFUSED_AMOUNT && number == 77);
+    HOLD(mtr_priority(5, &number) == MTR_ACCEPTED && number == 15);
+    HOLD(mtr_subtree(&state, 1, &number) == MTR_REFUSED_NO_GROUP && number == 15);
+    HOLD(mtr_subtree(&state, 0, &number) == MTR_ACCEPTED && number == 700);
+    HOLD(mtr_share(&state, 7, &number) == MTR_REFUSED_NO_THREAD && number == 700);
+    HOLD(mtr_share(&state, 5, &number) == MTR_ACCEPTED && number == 600);
+    int64_t lag = 77;
+    HOLD(mtr_lag(&state, 64, &lag) == MTR_REFUSED_NO_THREAD && lag == 77);
+    HOLD(mtr_lag(&state, 5, &lag) == MTR_ACCEPTED && lag == mtr_by_value_lag(state, 5).lag);
+
+    mtr_entry table[MTR_THREADS];
+    memset(table, 7, sizeof table);
+    const mtr_entry past = table[2];
+    size_t filled = 77;
+    HOLD(mtr_roster(&state, table, 1, &filled) == MTR_REFUSED_LENGTH && filled == 77 && memcmp(table, &past, sizeof past) == 0);
+    HOLD(mtr_roster(&state, table, MTR_THREADS, &filled) == MTR_ACCEPTED && filled == 2);
+    HOLD(table[0].state == MTR_ROSTER_RUNNABLE && memcmp(table + 2, &past, sizeof past) == 0);
+    HOLD(same(&state, &before));
+}
+
+static void blocks(void)
+{
+    mtr_records list;
+    memset(&list, 0, sizeof list);
+    list.records[0].kind = MTR_KIND_DISPATCH;
+    list.records[1].kind = MTR_KIND_WAKE;
+    list.records[1].subject = 9;
+    uint8_t area[MTR_BLOCK_BYTES];
+    HOLD(mtr_write_block(area, sizeof area - 1, 3, &list, 2) == MTR_REFUSED_LENGTH);
+    HOLD(mtr_write_block(area, sizeof area, 3, &list, 3) == MTR_REFUSED_FORM);
+    HOLD(mtr_write_block(area, sizeof area, 3, &list, 2) == MTR_ACCEPTED);
+    mtr_records found;
+    memset(&found, 7, sizeof found);
+    const mtr_records untouched = found;
+    size_t count = 77;
+    HOLD(mtr_read_block(area, sizeof area, 4, &found, &count) == MTR_REFUSED_FORM);
+    HOLD(count == 77 && memcmp(&found, &untouched, sizeof found) == 0);
+    HOLD(mtr_read_block(area, sizeof area, 3, &found, &count) == MTR_ACCEPTED && count == 2);
+    HOLD(found.records[1].kind == MTR_KIND_WAKE && found.records[1].subject == 9 && found.records[2].kind == 0);
+}
+
+int main(void)
+{
+    calls();
+    figures();
+    blocks();
+    HOLD(mtr_version() == MTR_VERSION);
+    for (uint32_t answer = 0; answer <= 21; answer++)
+        printf("%s\n", mtr_answer_text(CAST(mtr_answer, answer)));
+    return failures == 0 ? 0 : 1;
+}
