@@ -86,8 +86,11 @@ module _ (sel : ℕ → Bool) (x : ℕ) (off : sel x ≡ false) (s : Scheduler) 
             subst (λ (z : List ℕ). gauge sel x (allotmentAt at) z (s .running) (sliceAt at (s .running)) + 0 ≤ weight sel x s) (sym l)
             (subst (λ (v : ℕ). gauge sel x (allotmentAt at) (listed s ++ n ∷ []) (s .running) v + 0 ≤ weight sel x s)
             (sym (slice-other s n t (s .running) (λ z. fresh-run n small e (sym z))))
-            (omega (arith, gauge-join sel x off (sliceAt s (s .running)) (listed s) x-in (allotmentAt s) (allotmentAt at) (s .running) n same
-            (fresh-run n small e) (fresh-x n e) (unlisted s k n e))));
+            (omega (
+              arith,
+              gauge-join sel x off (sliceAt s (s .running)) (listed s) x-in (allotmentAt s) (allotmentAt at) (s .running) n same
+                  (fresh-run n small e) (fresh-x n e) (unlisted s k n e),
+            )));
       }
 
   remove-quiet : (n : ℕ) → T (admittedAt s n) → (n ≡ s .running → ⊥) → (n ≡ x → ⊥) → Quiet sel x s (effect (remove n) s) 0
@@ -114,8 +117,11 @@ module _ (sel : ℕ → Bool) (x : ℕ) (off : sel x ≡ false) (s : Scheduler) 
     lighter =
         subst (λ (z : ℕ). gauge sel x (allotmentAt s) (listed s) (chosen s) (sliceAt s (chosen s)) + 0
         ≤ gauge sel x (allotmentAt s) (listed s) z (sliceAt s z)) (sym idle)
-        (omega (arith, gauge-run sel x off (sliceAt s 64) (listed s) x-in (allotmentAt s) (chosen s) (sliceAt s (chosen s))
-        (first-before x (runnableAt s) (listed s) x-in run)));
+        (omega (
+          arith,
+          gauge-run sel x off (sliceAt s 64) (listed s) x-in (allotmentAt s) (chosen s) (sliceAt s (chosen s))
+              (first-before x (runnableAt s) (listed s) x-in run),
+        ));
   }
 
   -- a report by another thread
