@@ -2,15 +2,15 @@
 ghost use mathlib.Core.Path.{_≡_};
 ghost use Rattle.scheduler.specs.Sound.{sound};
 ghost use Rattle.scheduler.specs.Refusals.{openGroup, closeGroup, admit, remove, wake, dispatch, report};
-ghost use Rattle.scheduler.specs.Rule.{step, startReply, mapped};
-ghost use Rattle.scheduler.specs.Answers.{replyOf, mappedOf, subtreeOf};
-ghost use Rattle.scheduler.specs.Subtree.{subtreeReply};
+ghost use Rattle.scheduler.specs.Rule.{step, startReply};
+ghost use Rattle.scheduler.specs.Answers.{replyOf};
+ghost use Rattle.scheduler.specs.Tree.{totalOf};
+ghost use Rattle.priority.specs.Priority.{mappingOf};
 ghost use Rattle.abi.specs.Calls.{replyOut, mappedOut, totalOut, flagOut};
 use scheduler::Answered;
 use scheduler::Scheduler;
 use scheduler::batch;
 use scheduler::groups;
-use scheduler::priority;
 
 // What a call answers, with the state after it. answer: 0 accepted, or the refusal. thread (64: idle), slice and before are 0 except for
 // an accepted dispatch.
@@ -157,7 +157,7 @@ pub extern "C" fn mtr_by_value_sound(state: Scheduler) -> u32
 // any is unchanged.
 #[no_mangle]
 pub extern "C" fn mtr_by_value_priority(priority: u64) -> Mapped
-    ensures { λ r. ⌜ r ≡ mappedOut (mapped priority) ⌝ }
+    ensures { λ r. ⌜ r ≡ mappedOut (mappingOf priority) ⌝ }
 {
     let found = priority::reservation_of(priority);
     match found {
@@ -176,7 +176,7 @@ pub extern "C" fn mtr_by_value_priority(priority: u64) -> Mapped
 // not open. The state is unchanged.
 #[no_mangle]
 pub extern "C" fn mtr_by_value_subtree(state: Scheduler, group: u64) -> Total
-    ensures { λ r. ⌜ r ≡ totalOut (subtreeReply state group) ⌝ }
+    ensures { λ r. ⌜ r ≡ totalOut (totalOf state group) ⌝ }
 {
     let found = state.subtree_total(group);
     match found {

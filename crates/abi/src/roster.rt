@@ -5,9 +5,9 @@ use accounts::Share;
 use scheduler::Scheduler;
 ghost use mathlib.Core.Path.{_≡_};
 ghost use lib.ListN.{length};
-ghost use Rattle.accounts.specs.Figures.{lagReply, shareReply};
+ghost use Rattle.accounts.specs.Figures.{lagAt, shareAt};
 ghost use Rattle.accounts.specs.Roster.{rosterRefusal, tableOf};
-ghost use Rattle.abi.specs.Figures.{lagFigure, shareFigure};
+ghost use Rattle.abi.specs.Figures.{lagOut, shareOut};
 
 // A thread's lag. answer: 0, or the refusal, with a lag of 0.
 #[repr(C)]
@@ -27,7 +27,7 @@ pub struct ShareLine {
 // Refused: 16, the state is not sound; 7, the number is above 63 or not admitted. The state is unchanged.
 #[no_mangle]
 pub extern "C" fn mtr_by_value_lag(state: Scheduler, number: u64) -> LagLine
-    ensures { λ r. ⌜ lagFigure r ≡ lagReply state number ⌝ }
+    ensures { λ r. ⌜ r ≡ lagOut (lagAt state number) ⌝ }
 {
     match accounts::figures::lag(state, number) {
         Lag::Value(v) => LagLine { answer: 0, lag: v },
@@ -39,7 +39,7 @@ pub extern "C" fn mtr_by_value_lag(state: Scheduler, number: u64) -> LagLine
 // Refused: 16, the state is not sound; 7, the number is above 63 or not admitted. The state is unchanged.
 #[no_mangle]
 pub extern "C" fn mtr_by_value_share(state: Scheduler, number: u64) -> ShareLine
-    ensures { λ r. ⌜ shareFigure r ≡ shareReply state number ⌝ }
+    ensures { λ r. ⌜ r ≡ shareOut (shareAt state number) ⌝ }
 {
     match accounts::figures::share(state, number) {
         Share::Value(v) => ShareLine {

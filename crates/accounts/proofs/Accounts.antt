@@ -12,7 +12,7 @@ use Rattle.scheduler.specs.declared.Scheduler.{Scheduler}
 use Rattle.scheduler.specs.State.{threadAt, admittedAt}
 use Rattle.scheduler.specs.Sound.{sound}
 use Rattle.accounts.specs.declared.figures.Account.the-variants.{Found, Refused}
-use Rattle.accounts.specs.Figures.{figure, reply, figureRefusal}
+use Rattle.accounts.specs.Figures.{figureRefusal}
 use Rattle.accounts.specs.Inner.{Bounded, accountOf}
 use Rattle.accounts.proofs.Bounds.{bounded}
 
@@ -65,21 +65,24 @@ module _ (s : Scheduler) (n : ℕ) where
       below : n ≤ 63 → n < 64
       below l = omega arith
 
-  module _ {A : Type 0} (none : A) (value : Thread → A) where
-    pub found : (t : Thread) → accountOf s n ≡ Found t → reply (figureRefusal s n) none (value (threadAt s n)) ≡ figure 0 (value t)
+  -- what is answered for a thread that is found, and for a refusal
+  module _ {A : Type 0} (value : Thread → A) (no : ℕ → A) where
+    pub found : (t : Thread) → accountOf s n ≡ Found t → cond (eqb (figureRefusal s n) 0) (value (threadAt s n)) (no (figureRefusal s n)) ≡ value t
     unfolding accountOf
     found t e =
-        (by (λ b. cond b (Found (threadAt s n)) (Refused (figureRefusal s n)) ≡ Found t → cond b (figure 0 (value (threadAt s n))) (figure (figureRefusal s n) none) ≡ figure 0 (value t)) (eqb (figureRefusal s n) 0)
-        (λ _ u. let z : threadAt s n ≡ t = cc in ap (λ (x : Thread). figure 0 (value x)) z)
+        let k = figureRefusal s n in
+        (by (λ b. cond b (Found (threadAt s n)) (Refused k) ≡ Found t → cond b (value (threadAt s n)) (no k) ≡ value t) (eqb k 0)
+        (λ _ u. let z : threadAt s n ≡ t = cc in ap value z)
         (λ _ u. absurd (let z : _≡_ {A = ℕ} 0 1 = cc in omega arith)))
         e
 
-    pub refused : (k : ℕ) → accountOf s n ≡ Refused k → reply (figureRefusal s n) none (value (threadAt s n)) ≡ figure k none
+    pub refused : (j : ℕ) → accountOf s n ≡ Refused j → cond (eqb (figureRefusal s n) 0) (value (threadAt s n)) (no (figureRefusal s n)) ≡ no j
     unfolding accountOf
-    refused k e =
-        (by (λ b. cond b (Found (threadAt s n)) (Refused (figureRefusal s n)) ≡ Refused k → cond b (figure 0 (value (threadAt s n))) (figure (figureRefusal s n) none) ≡ figure k none) (eqb (figureRefusal s n) 0)
+    refused j e =
+        let k = figureRefusal s n in
+        (by (λ b. cond b (Found (threadAt s n)) (Refused k) ≡ Refused j → cond b (value (threadAt s n)) (no k) ≡ no j) (eqb k 0)
         (λ _ u. absurd (let z : _≡_ {A = ℕ} 0 1 = cc in omega arith))
-        (λ _ u. let z : figureRefusal s n ≡ k = cc in ap (λ (x : ℕ). figure x none) z))
+        (λ _ u. let z : k ≡ j = cc in ap no z))
         e
 
   -- a thread that is found is within its bounds

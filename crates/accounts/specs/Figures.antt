@@ -4,7 +4,6 @@ use Prim.Native.Nat.{ℕ}
 use mathlib.Core.Bool.{not, cond, _||_}
 use mathlib.Core.List.{[], _∷_}
 use lib.Dec.{ltb, eqb}
-use lib.IntN.{ℤ, pos}
 use Rattle.base.specs.Checks.{_⇒_, firstOf}
 use Rattle.scheduler.specs.declared.Scheduler.{Scheduler}
 use Rattle.scheduler.specs.State.{threadAt, admittedAt}
@@ -19,28 +18,8 @@ use Rattle.accounts.specs.declared.Share.the-variants as share
 unfoldable pub figureRefusal : Scheduler → ℕ → ℕ
 figureRefusal s n = firstOf ((not (sound s) ⇒ 16) ∷ (ltb 63 n || not (admittedAt s n) ⇒ 7) ∷ [])
 
--- answer: 0, or the refusal
-pub record Figure (A : Type 0) : Type 0 where
-  pub answer : ℕ
-  pub value : A
+unfoldable pub lagAt : Scheduler → ℕ → Lag
+lagAt s n = cond (eqb (figureRefusal s n) 0) (lag.Value (lagOf (s .meter) (threadAt s n))) (lag.Refused (figureRefusal s n))
 
-abbrev pub figure : {A : Type 0} → ℕ → A → Figure A
-figure k v = record { answer = k; value = v }
-
-abbrev pub reply : {A : Type 0} → ℕ → A → A → Figure A
-reply refusal none value = cond (eqb refusal 0) (figure 0 value) (figure refusal none)
-
-unfoldable pub lagReply : Scheduler → ℕ → Figure ℤ
-lagReply s n = reply (figureRefusal s n) (pos 0) (lagOf (s .meter) (threadAt s n))
-
-unfoldable pub shareReply : Scheduler → ℕ → Figure ℕ
-shareReply s n = reply (figureRefusal s n) 0 (shareOf (s .meter) (threadAt s n))
-
--- the paper's numbers for each case
-unfoldable pub lagLine : Lag → Figure ℤ
-lagLine (lag.Value v) = figure 0 v
-lagLine (lag.Refused k) = figure k (pos 0)
-
-unfoldable pub shareLine : Share → Figure ℕ
-shareLine (share.Value v) = figure 0 v
-shareLine (share.Refused k) = figure k 0
+unfoldable pub shareAt : Scheduler → ℕ → Share
+shareAt s n = cond (eqb (figureRefusal s n) 0) (share.Value (shareOf (s .meter) (threadAt s n))) (share.Refused (figureRefusal s n))

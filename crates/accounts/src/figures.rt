@@ -5,7 +5,7 @@ use scheduler::Scheduler;
 use scheduler::Thread;
 ghost use mathlib.Core.Path.{_≡_};
 ghost use Rattle.scheduler.specs.Accounts.{lagOf, shareOf};
-ghost use Rattle.accounts.specs.Figures.{lagLine, lagReply, shareLine, shareReply};
+ghost use Rattle.accounts.specs.Figures.{lagAt, shareAt};
 ghost use Rattle.accounts.specs.Inner.{Bounded, accountOf};
 
 // The lag of a thread whose record is within the bounds of a sound state.
@@ -58,7 +58,7 @@ fn find(s: Scheduler, number: u64) -> Account
 
 // The lag of a thread of the state.
 pub fn lag(s: Scheduler, number: u64) -> Lag
-    ensures { λ r. ⌜ lagLine r ≡ lagReply s number ⌝ }
+    ensures { λ r. ⌜ r ≡ lagAt s number ⌝ }
 {
     match find(s, number) {
         Account::Found(t) => Lag::Value(lag_of(t, s.meter)),
@@ -68,7 +68,7 @@ pub fn lag(s: Scheduler, number: u64) -> Lag
 
 // The achieved share of a thread of the state.
 pub fn share(s: Scheduler, number: u64) -> Share
-    ensures { λ r. ⌜ shareLine r ≡ shareReply s number ⌝ }
+    ensures { λ r. ⌜ r ≡ shareAt s number ⌝ }
 {
     match find(s, number) {
         Account::Found(t) => Share::Value(share_of(t, s.meter)),

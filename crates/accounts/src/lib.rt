@@ -3,13 +3,13 @@ pub mod figures; // figures.rt: the lag and the share of a thread
 pub mod roster; // roster.rt: the lent table of thread records
 mod sort; // sort.rt: the admitted threads in the roster's order
 
-// What the lag of a thread comes to. `lagLine` sets out the paper's numbers for each case.
+// What the lag of a thread comes to.
 pub enum Lag {
     Value(i64),
     Refused(u32),
 }
 
-// What the achieved share of a thread comes to. `shareLine` sets out the paper's numbers for each case.
+// What the achieved share of a thread comes to.
 pub enum Share {
     Value(u32),
     Refused(u32),

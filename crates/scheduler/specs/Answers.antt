@@ -1,15 +1,28 @@
--- The paper's numbers for each case of an answer.
+-- RULE 6: what each call answers, with the state that it hands back; and the numbers of an answer.
 use Prim.Native.Nat.{ℕ}
+use mathlib.Core.Bool.{cond}
+use lib.Dec.{eqb}
 use Rattle.scheduler.specs.declared.Scheduler.{Scheduler}
 use Rattle.scheduler.specs.declared.Answer.{Answer}
 use Rattle.scheduler.specs.declared.Answer.the-variants.{Accepted, Refused, Idle, Run}
 use Rattle.scheduler.specs.declared.Answered.{Answered}
-use Rattle.scheduler.specs.declared.priority.Mapping.{Mapping}
-use Rattle.scheduler.specs.declared.priority.Mapping.the-variants.{Reservation}
-use Rattle.scheduler.specs.declared.groups.Total.{Total}
-use Rattle.scheduler.specs.declared.groups.Total.the-variants.{Thousandths}
-use Rattle.scheduler.specs.Rule.{Reply, Mapped}
-use Rattle.scheduler.specs.Subtree.{Subtree}
+use Rattle.scheduler.specs.State.{sliceAt}
+use Rattle.scheduler.specs.Refusals.{Call, refusal, startRefusal}
+use Rattle.scheduler.specs.Effects.{chosen, passedOver}
+use Rattle.scheduler.specs.Rule.{Reply, isDispatch, step, startReply}
+
+-- an accepted dispatch is idle or names the thread that runs
+unfoldable pub acceptedAnswer : Call → Scheduler → Answer
+acceptedAnswer c s = cond (isDispatch c) (cond (eqb (chosen s) 64) (Idle (passedOver s)) (Run (chosen s) (sliceAt s (chosen s)) (passedOver s))) Accepted
+
+unfoldable pub answerTo : Call → Scheduler → Answer
+answerTo c s = cond (eqb (refusal c s) 0) (acceptedAnswer c s) (Refused (refusal c s))
+
+unfoldable pub answeredTo : Call → Scheduler → Answered
+answeredTo c s = record { answer = answerTo c s; state = (step c s) .state }
+
+unfoldable pub startAnswered : ℕ → ℕ → Answered
+startAnswered m p = record { answer = cond (eqb (startRefusal m p) 0) Accepted (Refused (startRefusal m p)); state = (startReply m p) .state }
 
 -- answer, thread, slice, threads before it
 unfoldable pub numbersOf : Answer → Scheduler → Reply
@@ -20,13 +33,3 @@ numbersOf (Run t a n) s = record { answer = 0; thread = t; slice = a; before = n
 
 unfoldable pub replyOf : Answered → Reply
 replyOf r = numbersOf (r .answer) (r .state)
-
--- 0 and the reservation, or the refusal
-unfoldable pub mappedOf : Mapping → Mapped
-mappedOf (Reservation f) = record { answer = 0; reservation = f }
-mappedOf (Mapping.Refused k) = record { answer = k; reservation = 0 }
-
--- 0 and the sum, or the refusal
-unfoldable pub subtreeOf : Total → Subtree
-subtreeOf (Thousandths n) = record { answer = 0; thousandths = n }
-subtreeOf (Total.Refused k) = record { answer = k; thousandths = 0 }

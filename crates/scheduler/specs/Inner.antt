@@ -1,17 +1,16 @@
--- What the parts of the soundness test return: the contracts of private functions, each over just what is handed to it. Nothing of
--- the rule rests on them.
+-- What private functions require and return, each over just what is handed to it. Nothing of the rule rests on it.
 use Prim.Native.Nat.{ℕ, _*_, _-_, _≤_, _<_}
 use mathlib.Core.Path.{_≡_}
 use mathlib.Core.List.{List}
 use mathlib.Core.Bool.{Bool, true, false, not, _&&_, _||_}
 use lib.ListN.{getD}
-use lib.Dec.{ltb, leb, eqb}
+use lib.Dec.{T, ltb, leb, eqb}
 use Rattle.base.specs.Checks.{within}
 use Rattle.base.specs.Lists.{member, distinct, everyOf, everyBelow}
 use Rattle.scheduler.specs.declared.Thread.{Thread}
 use Rattle.scheduler.specs.declared.Group.{Group}
 use Rattle.scheduler.specs.declared.Scheduler.{Scheduler}
-use Rattle.scheduler.specs.State.{admittedAt, runnableAt, listed}
+use Rattle.scheduler.specs.State.{admittedAt, runnableAt, openAt, listed}
 use Rattle.scheduler.specs.Sound.{threadOk, reservedIn, sound}
 
 -- the state s with these parts in place of its own
@@ -73,3 +72,11 @@ pub record ThreadsPass (s : Scheduler) (ok : Bool) (used : List ℕ) : Type 0 wh
 pub record Tested (s : Scheduler) (ok : Bool) (used : List ℕ) : Type 0 where
   pub test : ok ≡ sound s
   pub sums : ok ≡ true → Sums s used
+
+-- the groups and the reservations in each are those of a sound state in which this group is open: what the sum down the tree requires
+pub record Rooted (groups : List Group) (used : List ℕ) (group : ℕ) : Type 0 where
+  pub state : Scheduler
+  pub fine : T (sound state)
+  pub same : state .groups ≡ groups
+  pub sums : Sums state used
+  pub opened : T (openAt state group)

@@ -8,5 +8,4 @@ pub mod Accounts
 pub mod Stretch
 pub mod Tree
 pub mod Inner
-pub mod Subtree
 pub mod Batch

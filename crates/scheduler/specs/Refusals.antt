@@ -57,9 +57,6 @@ checks (report reason used) s =
 unfoldable pub refusal : Call → Scheduler → ℕ
 refusal c s = firstOf ((not (sound s) ⇒ 16) ∷ checks c s)
 
--- "Start: 1, m or P outside its range." "Map a priority: 4, outside 1 to 10."
+-- start: 1, m or P outside its range
 unfoldable pub startRefusal : ℕ → ℕ → ℕ
 startRefusal m p = firstOf ((not (within 1 1000 m) || not (within 1 1000000 p) ⇒ 1) ∷ [])
-
-unfoldable pub priorityRefusal : ℕ → ℕ
-priorityRefusal p = firstOf ((not (within 1 10 p) ⇒ 4) ∷ [])

@@ -1,10 +1,10 @@
 -- What each call answers and the state it hands back. A refusal returns its number and the same state.
-use Prim.Native.Nat.{ℕ, _+_}
+use Prim.Native.Nat.{ℕ}
 use mathlib.Core.Bool.{Bool, true, false, cond}
 use lib.Dec.{eqb}
 use Rattle.scheduler.specs.declared.Scheduler.{Scheduler}
 use Rattle.scheduler.specs.State.{sliceAt}
-use Rattle.scheduler.specs.Refusals.{Call, openGroup, closeGroup, admit, remove, wake, dispatch, report, refusal, startRefusal, priorityRefusal}
+use Rattle.scheduler.specs.Refusals.{Call, openGroup, closeGroup, admit, remove, wake, dispatch, report, refusal, startRefusal}
 use Rattle.scheduler.specs.Effects.{chosen, passedOver, effect, started, unstarted}
 
 -- answer: 0 accepted, or the refusal
@@ -44,11 +44,3 @@ step c s = cond (eqb (refusal c s) 0) (accept c s) (refuse (refusal c s) s)
 -- Start takes no state.
 unfoldable pub startReply : ℕ → ℕ → Reply
 startReply m p = cond (eqb (startRefusal m p) 0) (refuse 0 (started m p)) (refuse (startRefusal m p) unstarted)
-
--- "A priority of 1 to 10 maps to the reservation priority plus 10": 0 and the reservation, or the refusal
-pub record Mapped : Type 0 where
-  pub answer : ℕ
-  pub reservation : ℕ
-
-unfoldable pub mapped : ℕ → Mapped
-mapped p = cond (eqb (priorityRefusal p) 0) (record { answer = 0; reservation = p + 10 }) (record { answer = priorityRefusal p; reservation = 0 })

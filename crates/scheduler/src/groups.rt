@@ -12,11 +12,9 @@ ghost use Rattle.scheduler.specs.State.{noGroup, isOpen, openAt, threadA
 ghost use Rattle.scheduler.specs.Sound.{ceilingsIn, load, sound};
 ghost use Rattle.scheduler.specs.Refusals.{free, refusal, openGroup, closeGroup, admit};
 ghost use Rattle.scheduler.specs.Effects.{newThread};
-ghost use Rattle.scheduler.specs.Rule.{step};
-ghost use Rattle.scheduler.specs.Answers.{replyOf, subtreeOf};
-ghost use Rattle.scheduler.specs.Tree.{subtreeTotal};
-ghost use Rattle.scheduler.specs.Subtree.{subtreeReply, Rooted};
-ghost use Rattle.scheduler.specs.Inner.{Sums};
+ghost use Rattle.scheduler.specs.Answers.{answeredTo};
+ghost use Rattle.scheduler.specs.Tree.{subtreeTotal, totalOf};
+ghost use Rattle.scheduler.specs.Inner.{Sums, Rooted};
 use crate::Answered;
 use crate::Group;
 use crate::Scheduler;
@@ -25,7 +23,7 @@ use crate::threads;
 
 const GROUPS: u64 = Scheduler::GROUPS as u64;
 
-// What a group and the groups below it have reserved. `subtreeOf` sets out the numbers for each case.
+// What a group and the groups below it have reserved.
 pub enum Total {
     Thousandths(u32),
     Refused(u32),
@@ -292,7 +290,7 @@ fn subtree(groups: [Group; 16], reserved: [u32; 16], group: u64) -> u32
 impl Scheduler {
     // Opens a group with a ceiling below a parent.
     pub fn open(mut self, number: u64, parent: u64, ceiling: u64) -> Answered
-        ensures { λ r. ⌜ replyOf r ≡ step (openGroup number parent ceiling) self ⌝ }
+        ensures { λ r. ⌜ r ≡ answeredTo (openGroup number parent ceiling) self ⌝ }
     {
         let test = self.tested();
         let reserved = test.used;
@@ -311,7 +309,7 @@ impl Scheduler {
 
     // Closes a group that has no thread and no child.
     pub fn close(mut self, number: u64) -> Answered
-        ensures { λ r. ⌜ replyOf r ≡ step (closeGroup number) self ⌝ }
+        ensures { λ r. ⌜ r ≡ answeredTo (closeGroup number) self ⌝ }
     {
         let test = self.tested();
         let reserved = test.used;
@@ -330,7 +328,7 @@ impl Scheduler {
 
     // Admits a thread to a group with a reservation: runnable, with a full allotment, at the rear of the list.
     pub fn admit(mut self, number: u64, group: u64, reservation: u64) -> Answered
-        ensures { λ r. ⌜ replyOf r ≡ step (admit number group reservation) self ⌝ }
+        ensures { λ r. ⌜ r ≡ answeredTo (admit number group reservation) self ⌝ }
     {
         let test = self.tested();
         let reserved = test.used;
@@ -369,7 +367,7 @@ impl Scheduler {
 
     // The reservations in a group and everywhere below it.
     pub fn subtree_total(self, group: u64) -> Total
-        ensures { λ r. ⌜ subtreeOf r ≡ subtreeReply self group ⌝ }
+        ensures { λ r. ⌜ r ≡ totalOf self group ⌝ }
     {
         let test = self.tested();
         if !test.ok {

@@ -4,7 +4,6 @@ ghost use Rattle.scheduler.specs.State.{defaultSettings};
 
 pub mod batch;
 pub mod groups;
-pub mod priority;
 pub mod sound;
 pub mod threads;
 
@@ -81,7 +80,7 @@ impl Scheduler {
     pub const METER_MOST: u64 = 10000001000000;
 }
 
-// What a call answers. `numbersOf` sets out the paper's numbers for each case.
+// What a call answers. `numbersOf` sets out its numbers for each case.
 pub enum Answer {
     Accepted,
     Refused(u32),

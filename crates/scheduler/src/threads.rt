@@ -13,8 +13,7 @@ ghost use Rattle.scheduler.specs.State.{noThread};
 ghost use Rattle.scheduler.specs.Sound.{sound};
 ghost use Rattle.scheduler.specs.Refusals.{remove, wake, dispatch, report, startRefusal};
 ghost use Rattle.scheduler.specs.Effects.{renewed, chargedThread, wokenThread, unstarted};
-ghost use Rattle.scheduler.specs.Rule.{step, startReply};
-ghost use Rattle.scheduler.specs.Answers.{replyOf};
+ghost use Rattle.scheduler.specs.Answers.{answeredTo, startAnswered};
 use crate::Answer;
 use crate::Answered;
 use crate::Group;
@@ -370,7 +369,7 @@ impl Scheduler {
 
     // A state with these settings and no threads.
     pub fn start(thousandth: u64, interval: u64) -> Answered
-        ensures { λ r. ⌜ replyOf r ≡ startReply thousandth interval ⌝ }
+        ensures { λ r. ⌜ r ≡ startAnswered thousandth interval ⌝ }
     {
         let code = start_code(thousandth, interval);
         let mut answer = Answer::Refused(code);
@@ -398,7 +397,7 @@ impl Scheduler {
 
     // Takes a thread off the list and frees its number and reservation.
     pub fn remove(self, number: u64) -> Answered
-        ensures { λ r. ⌜ replyOf r ≡ step (remove number) self ⌝ }
+        ensures { λ r. ⌜ r ≡ answeredTo (remove number) self ⌝ }
     {
         let ok = self.sound();
         self.remove_given(ok, number)
@@ -406,7 +405,7 @@ impl Scheduler {
 
     // Makes a blocked thread runnable.
     pub fn wake(self, number: u64) -> Answered
-        ensures { λ r. ⌜ replyOf r ≡ step (wake number) self ⌝ }
+        ensures { λ r. ⌜ r ≡ answeredTo (wake number) self ⌝ }
     {
         let ok = self.sound();
         self.wake_given(ok, number)
@@ -414,7 +413,7 @@ impl Scheduler {
 
     // Takes the first runnable thread of the list. `before` counts the entries passed, which are blocked.
     pub fn dispatch(self) -> Answered
-        ensures { λ r. ⌜ replyOf r ≡ step dispatch self ⌝ }
+        ensures { λ r. ⌜ r ≡ answeredTo dispatch self ⌝ }
     {
         let ok = self.sound();
         self.dispatch_given(ok)
@@ -422,7 +421,7 @@ impl Scheduler {
 
     // Charges the running thread the ticks used, and ends its run.
     pub fn report(mut self, reason: u64, used: u64) -> Answered
-        ensures { λ r. ⌜ replyOf r ≡ step (report reason used) self ⌝ }
+        ensures { λ r. ⌜ r ≡ answeredTo (report reason used) self ⌝ }
     {
         let ok = self.sound();
         self.report_given(ok, reason, used)
@@ -432,7 +431,7 @@ impl Scheduler {
 
     pub(crate) fn remove_given(mut self, ok: bool, number: u64) -> Answered
         requires { ⌜ ok ≡ sound self ⌝ }
-        ensures { λ r. ⌜ replyOf r ≡ step (remove number) self ⌝ }
+        ensures { λ r. ⌜ r ≡ answeredTo (remove number) self ⌝ }
     {
         let at = (number % Self::THREADS as u64) as usize;
         let thread = self.threads[at];
@@ -453,7 +452,7 @@ impl Scheduler {
 
     pub(crate) fn wake_given(mut self, ok: bool, number: u64) -> Answered
         requires { ⌜ ok ≡ sound self ⌝ }
-        ensures { λ r. ⌜ replyOf r ≡ step (wake number) self ⌝ }
+        ensures { λ r. ⌜ r ≡ answeredTo (wake number) self ⌝ }
     {
         let at = (number % Self::THREADS as u64) as usize;
         let thread = self.threads[at];
@@ -468,7 +467,7 @@ impl Scheduler {
 
     pub(crate) fn dispatch_given(mut self, ok: bool) -> Answered
         requires { ⌜ ok ≡ sound self ⌝ }
-        ensures { λ r. ⌜ replyOf r ≡ step dispatch self ⌝ }
+        ensures { λ r. ⌜ r ≡ answeredTo dispatch self ⌝ }
     {
         let running = self.running;
         let code = dispatch_code(ok, running, self.meter);
@@ -499,7 +498,7 @@ impl Scheduler {
 
     pub(crate) fn report_given(mut self, ok: bool, reason: u64, used: u64) -> Answered
         requires { ⌜ ok ≡ sound self ⌝ }
-        ensures { λ r. ⌜ replyOf r ≡ step (report reason used) self ⌝ }
+        ensures { λ r. ⌜ r ≡ answeredTo (report reason used) self ⌝ }
     {
         let running = self.running;
         let at = (running % Self::THREADS) as usize;

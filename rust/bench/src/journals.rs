@@ -1,7 +1,8 @@
 //! Records per second of the program `mtrrun` beside the model's replay, on journals of a million records and of half a million.
 
 use model::blocks::{write_block, Record};
-use model::random::{apply, record, Call, Rng};
+use model::calls::{apply, record, Call};
+use model::random::Rng;
 use model::rule::Scheduler;
 use std::fs::File;
 use std::path::{Path, PathBuf};

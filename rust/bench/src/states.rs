@@ -1,6 +1,6 @@
 //! The states that are measured, made by the model's calls.
 
-use model::blocks::{kind, Record, RECORDS};
+use model::blocks::{fields, Record, RECORDS};
 use model::rule::{Scheduler, BLOCK, METER_LIMIT, TICK};
 
 /// Reservation of each of n threads: all fit group 0 with 40 to spare, and half
@@ -86,19 +86,15 @@ pub fn sloped(n: u64, deep: bool, falling: bool) -> Scheduler {
 pub fn records() -> [Record; RECORDS] {
     std::array::from_fn(|i| {
         let i = i as u8;
-        let mut record = Record {
-            kind: 1 + i % 8,
-            ..Record::default()
-        };
-        match record.kind {
-            kind::OPEN | kind::ADMIT => {
-                (record.subject, record.group, record.amount) = (i, i / 2, 20 * i as u16);
-            }
-            kind::CLOSE | kind::REMOVE | kind::WAKE => record.subject = i,
-            kind::REPORT => (record.reason, record.ticks) = (i % 4, 20_000),
-            kind::START => (record.amount, record.ticks) = (100, 20_000),
-            _ => {}
+        let kind = 1 + i % 8;
+        let uses = fields(kind).unwrap_or_default();
+        Record {
+            kind,
+            subject: if uses.subject { i } else { 0 },
+            group: if uses.group { i / 2 } else { 0 },
+            reason: if uses.reason { i % 4 } else { 0 },
+            amount: if uses.amount { 20 * i as u16 } else { 0 },
+            ticks: if uses.ticks { 20_000 } else { 0 },
         }
-        record
     })
 }

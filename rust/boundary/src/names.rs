@@ -70,7 +70,7 @@ pub const NOT_STARTED: &str = "REFUSED_NOT_STARTED";
 
 const SCHEDULER: &str = "crates/scheduler/src/lib.rt";
 const RUN: &str = "crates/scheduler/src/threads.rt";
-const PRIORITY: &str = "crates/scheduler/src/priority.rt";
+const PRIORITY: &str = "crates/priority/src/lib.rt";
 const REPLAY: &str = "crates/replay/src/lib.rt";
 /// Where the version stands.
 pub const VERSION: &str = "crates/abi/src/version.rt";
@@ -187,12 +187,12 @@ pub const FAMILIES: [Family; 10] = [
             ),
             one(
                 "LOWEST_PRIORITY",
-                constant(PRIORITY, "LOWEST"),
+                constant(PRIORITY, "LEAST"),
                 "The lowest priority.",
             ),
             one(
                 "HIGHEST_PRIORITY",
-                constant(PRIORITY, "HIGHEST"),
+                constant(PRIORITY, "MOST"),
                 "The highest priority.",
             ),
         ],

@@ -2,7 +2,7 @@
 
 mod common;
 
-use common::{archive, c, committed, cpp, folder, has, printed, run, said, FLAGS};
+use common::{archive, c, committed, cpp, folder, has, printed, run, said, shown, FLAGS};
 use std::fs;
 use std::process::Command;
 
@@ -159,22 +159,6 @@ fn stack() {
             }
         }
     }
-}
-
-/// The text between a line of README and the next that is not indented.
-fn shown(readme: &str, first: &str) -> String {
-    let mut lines = readme.lines().skip_while(|line| line.trim() != first);
-    let mut text = String::new();
-    for line in lines.by_ref() {
-        match line.strip_prefix("    ") {
-            Some(code) => text += code,
-            None if line.is_empty() => {}
-            None => break,
-        }
-        text.push('\n');
-    }
-    assert!(!text.is_empty(), "README has no {first}");
-    text
 }
 
 /// README's program in C compiles without a warning, runs, and keeps its state.

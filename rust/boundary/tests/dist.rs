@@ -1,21 +1,13 @@
 //! `dist.sh`: the folder that it fills is whole, links from C, C++ and Rust,
-//! through pkg-config and CMake too, and a failure leaves everything as it was.
+//! and through pkg-config and CMake.
 
 mod common;
 
-use common::{committed, folder, has, printed, run, said};
+use common::{committed, dist, files, folder, has, printed, run, said, shown};
 use std::fs;
 use std::path::{Path, PathBuf};
-use std::process::{Command, Output, Stdio};
+use std::process::{Command, Stdio};
 use std::sync::Once;
-
-/// Runs the script of a repository on what is built there.
-fn dist(root: &Path, folder: &Path) -> Output {
-    run(Command::new(root.join("dist.sh"))
-        .arg("--no-build")
-        .arg(folder)
-        .env("REVISION", "test-1"))
-}
 
 fn cargo() -> Command {
     Command::new(std::env::var("CARGO").unwrap_or("cargo".to_string()))
@@ -41,26 +33,6 @@ fn filled(name: &str) -> PathBuf {
     let output = dist(&boundary::root(), &folder);
     assert!(output.status.success(), "{}", said(&output));
     folder
-}
-
-/// The files in a folder, by their paths there.
-fn files(folder: &Path) -> Vec<String> {
-    let mut found = Vec::new();
-    let mut open = vec![folder.to_path_buf()];
-    while let Some(next) = open.pop() {
-        for entry in fs::read_dir(next).unwrap() {
-            let path = entry.unwrap().path();
-            match path.is_dir() {
-                true => open.push(path),
-                false => {
-                    let path = path.strip_prefix(folder).unwrap();
-                    found.push(path.to_str().unwrap().to_string());
-                }
-            }
-        }
-    }
-    found.sort_unstable();
-    found
 }
 
 #[test]
@@ -316,7 +288,7 @@ fn hosts_and_programs() {
     assert!(text.contains("admit"), "{text}");
 }
 
-/// A project with the folder in vendor/mtr, which makes the crate a member of
+/// README's program in a project with the folder in vendor/mtr, which makes the crate a member of
 /// the project's workspace.
 #[test]
 fn links_from_rust() {
@@ -334,23 +306,16 @@ edition = \"2021\"
 [dependencies]
 mtr = { path = \"vendor/mtr/rust\" }
 ";
-    let program = "use mtr::{Refusal, Scheduler};
-
-fn main() -> Result<(), Refusal> {
-    let mut s = Scheduler::default();
-    s.admit(5, 0, 500)?;
-    println!(\"{:?} {:?}\", s.admit(7, 0, 501), s.dispatch()?);
-    Ok(())
-}
-";
+    let readme = committed("README.md");
+    let program = shown(&readme, "use mtr::{Dispatch, Refusal, Scheduler};");
     fs::write(project.join("Cargo.toml"), manifest).unwrap();
     fs::create_dir(project.join("src")).unwrap();
     fs::write(project.join("src/main.rs"), program).unwrap();
     let mut build = cargo();
     build.args(["run", "--quiet", "--offline", "-j1"]);
     build.env("CARGO_TARGET_DIR", project.join("target"));
-    let wanted = "Err(NoRoom) Run { thread: 5, slice: 20000, before: 0 }\n";
-    assert_eq!(printed(build.current_dir(&project)), wanted);
+    let told = printed(build.current_dir(&project));
+    assert_eq!(told, "thread 5 runs for 20000\n");
 }
 
 /// A second run replaces the folder whole.
@@ -364,117 +329,4 @@ fn an_earlier_folder_is_replaced() {
     assert_eq!(files(&folder).len(), before - 1);
     let beside = fs::read_dir(folder.parent().unwrap()).unwrap().count();
     assert_eq!(beside, 1);
-}
-
-/// The status is not 0, the script says why, and the folder is as it was.
-#[test]
-fn failures_leave_the_folder() {
-    // A repository without an archive.
-    let above = folder("dist-fail");
-    let root = above.join("repository");
-    for part in [
-        "target/staticlib",
-        "target/bin",
-        "target/cargo/release",
-        "docs",
-        "examples/host/c",
-        "examples/host/rust/src",
-        "include",
-        "rust/mtr/src",
-    ] {
-        fs::create_dir_all(root.join(part)).unwrap();
-    }
-    for part in [
-        "dist.sh",
-        "include/mtr.h",
-        "rust/mtr/build.rs",
-        "examples/host/rust/Cargo.toml",
-        "docs/PROOFS.md",
-    ] {
-        fs::copy(boundary::root().join(part), root.join(part)).unwrap();
-    }
-    for part in ["target/bin/mtrrun", "target/cargo/release/journal"] {
-        fs::write(root.join(part), "").unwrap();
-    }
-    let target = above.join("dist");
-    let refused = |text: &str| {
-        let output = dist(&root, &target);
-        assert_eq!(output.status.code(), Some(1), "{}", said(&output));
-        assert!(said(&output).contains(text), "{}", said(&output));
-        let mut beside: Vec<_> = fs::read_dir(&above)
-            .unwrap()
-            .map(|e| e.unwrap().file_name())
-            .collect();
-        beside.retain(|name| name != "repository" && name != "dist");
-        assert!(beside.is_empty(), "{beside:?}");
-    };
-    let archive = root.join("target/staticlib/libabi.a");
-    refused("libabi.a is missing");
-    assert!(!target.exists());
-
-    fs::write(&archive, "no archive").unwrap();
-    refused("nm can't read");
-    assert!(!target.exists());
-
-    // An object that needs more than the mem functions.
-    fs::write(
-        above.join("repository/needy.c"),
-        "int puts(const char *); int f(void) { return puts(\"\"); }",
-    )
-    .unwrap();
-    printed(
-        Command::new("cc")
-            .args(["-c", "needy.c", "-o", "needy.o"])
-            .current_dir(&root),
-    );
-    fs::remove_file(&archive).unwrap();
-    printed(
-        Command::new("ar")
-            .args(["rc", "target/staticlib/libabi.a", "needy.o"])
-            .current_dir(&root),
-    );
-    refused("needs puts");
-    assert!(!target.exists());
-
-    // What is missing later: the header, with an earlier folder in place. In its
-    // manifest nothing is left of what the tests need.
-    fs::copy(boundary::root().join("target/staticlib/libabi.a"), &archive).unwrap();
-    let package = "[package]\nname = \"mtr\"\nversion = \"1.1.0\"\n\n";
-    let tests = "[dev-dependencies]\nmodel = { path = \"../model\" }\n\n[[test]]\nname = \"a\"\n\n";
-    let library = "[lib]\ndoctest = false\n";
-    fs::write(
-        root.join("rust/mtr/Cargo.toml"),
-        [package, tests, library].concat(),
-    )
-    .unwrap();
-    let output = dist(&root, &target);
-    assert!(output.status.success(), "{}", said(&output));
-    let manifest = fs::read_to_string(target.join("rust/Cargo.toml")).unwrap();
-    assert_eq!(manifest, [package, library].concat());
-    // The gate's last line, unless the gate ended before the commit.
-    let gate = root.join("target/gate.txt");
-    fs::write(&gate, "a line\n5 passed, 0 failed\n").unwrap();
-    let paged = || {
-        assert!(dist(&root, &target).status.success());
-        fs::read_to_string(target.join("PROVED.md")).unwrap()
-    };
-    assert!(paged().contains("| gate | 5 passed, 0 failed |\n"));
-    printed(Command::new("touch").args(["-d", "@1"]).arg(&gate));
-    assert!(paged().contains("| gate | was not run for this tree |\n"));
-
-    let earlier = files(&target);
-    fs::remove_file(root.join("include/mtr.h")).unwrap();
-    refused("can't fill");
-    assert_eq!(files(&target), earlier);
-
-    // A folder that the script did not fill.
-    fs::remove_file(target.join("VERSION")).unwrap();
-    let earlier = files(&target);
-    refused("has no VERSION");
-    assert_eq!(files(&target), earlier);
-
-    let usage = run(Command::new(root.join("dist.sh")).args(["--no-build", "a", "b"]));
-    assert_eq!(usage.status.code(), Some(2), "{}", said(&usage));
-    let usage = run(Command::new(root.join("dist.sh")).arg("--other"));
-    assert_eq!(usage.status.code(), Some(2), "{}", said(&usage));
 }

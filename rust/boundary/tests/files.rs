@@ -201,3 +201,47 @@ fn the_archive_has_the_functions() {
     let libc = ["memcmp", "memcpy", "memmove", "memset"];
     assert!(needed.iter().all(|n| libc.contains(n)), "{needed:?}");
 }
+
+/// What docs/PERFORMANCE.md has of each call's stack is what was measured.
+#[test]
+fn the_document_has_the_stack() {
+    let page = committed("docs/PERFORMANCE.md");
+    let (_, table) = page
+        .split_once("| call | stack, bytes |\n|---|---|\n")
+        .unwrap();
+    let rows: Vec<String> = table
+        .lines()
+        .map_while(|line| line.strip_prefix("| ")?.strip_suffix(" |"))
+        .map(|row| row.replace(" | ", " "))
+        .collect();
+    let costs = committed(boundary::costs::FILE);
+    let measured: Vec<&str> = costs
+        .lines()
+        .filter(|line| !line.starts_with('#'))
+        .filter_map(|line| Some(line.rsplit_once(' ')?.0))
+        .collect();
+    assert_eq!(rows, measured);
+}
+
+/// No registers but those that the header names: the general ones and SSE.
+#[test]
+fn the_machine_is_as_stated() {
+    let mut dump = Command::new("objdump");
+    let output = dump
+        .args(["-d", "--no-show-raw-insn"])
+        .arg(archive())
+        .output();
+    let text = String::from_utf8(output.unwrap().stdout).unwrap();
+    let code: Vec<&str> = text
+        .lines()
+        .filter_map(|line| Some(line.split_once(":\t")?.1.trim()))
+        .collect();
+    assert!(code.len() > 1_000, "{} instructions", code.len());
+    let holds = |part: &str| code.iter().filter(|c| c.contains(part)).count();
+    assert!(holds("%xmm") > 0);
+    for part in ["%ymm", "%zmm", "%fs:", "%gs:", "%st", "%mm0", "syscall"] {
+        assert_eq!(holds(part), 0, "{part}");
+    }
+    let x87 = code.iter().filter(|c| c.starts_with('f')).count();
+    assert_eq!(x87, 0);
+}

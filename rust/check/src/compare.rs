@@ -8,7 +8,7 @@
 
 use model::accounts::Entry;
 use model::blocks::Record;
-use model::random::Call;
+use model::calls::{self, Call};
 use model::rule::{self, Group, Reply, Scheduler, Settings, Thread};
 use mtr::numbers;
 
@@ -102,10 +102,9 @@ pub const ZEROS: Scheduler = Scheduler {
     running: 0,
 };
 
-/// Reply and state of a call of the library's.
-pub fn library(s: &Scheduler, call: Call) -> (Reply, Scheduler) {
-    let state = to_library(s);
-    let reply = match call {
+/// What the library answers to a call.
+pub fn made(state: numbers::Scheduler, call: Call) -> numbers::Reply {
+    match call {
         Call::Open {
             number,
             parent,
@@ -121,8 +120,12 @@ pub fn library(s: &Scheduler, call: Call) -> (Reply, Scheduler) {
         Call::Wake { number } => numbers::wake(state, number),
         Call::Dispatch => numbers::dispatch(state),
         Call::Report { reason, used } => numbers::report(state, reason, used),
-    };
-    parts(&reply)
+    }
+}
+
+/// Reply and state of a call of the library's.
+pub fn library(s: &Scheduler, call: Call) -> (Reply, Scheduler) {
+    parts(&made(to_library(s), call))
 }
 
 fn parts(reply: &numbers::Reply) -> (Reply, Scheduler) {
@@ -140,7 +143,7 @@ fn parts(reply: &numbers::Reply) -> (Reply, Scheduler) {
 pub fn both(s: &mut Scheduler, call: Call) -> Reply {
     let before = *s;
     let (reply, after) = library(&before, call);
-    let wanted = model::random::apply(s, call);
+    let wanted = calls::apply(s, call);
     assert!(
         reply == wanted && after == *s,
         "{call:?}\nthe library's {reply:?}\nthe model's   {wanted:?}\nin {before:?}\nthe library's {after:?}\nthe model's   {s:?}"
@@ -185,15 +188,7 @@ pub const KINDS: [&str; 7] = [
 
 /// The call's place in [`KINDS`].
 pub fn kind(call: Call) -> usize {
-    match call {
-        Call::Open { .. } => 0,
-        Call::Close { .. } => 1,
-        Call::Admit { .. } => 2,
-        Call::Remove { .. } => 3,
-        Call::Wake { .. } => 4,
-        Call::Dispatch => 5,
-        Call::Report { .. } => 6,
-    }
+    calls::record(call).kind as usize - 1
 }
 
 /// How often each call gave each answer.

@@ -9,8 +9,8 @@ use crate::compare::{
 };
 use crate::guard::{Guarded, Side};
 use model::accounts::Entry;
-use model::blocks::{check, kind, read_block, write_block, Record, BLOCK, RECORDS};
-use model::random::recorded;
+use model::blocks::{check, fields, kind, read_block, write_block, Record, BLOCK, RECORDS};
+use model::calls::recorded;
 use model::rule::{Reply, Scheduler};
 use mtr::{numbers, raw};
 use std::fmt::Write;
@@ -42,6 +42,19 @@ impl Bytes<'_> {
 
     fn long(&mut self) -> u32 {
         self.short() as u32 | (self.short() as u32) << 16
+    }
+
+    /// A record of a kind, its fields in order.
+    fn record(&mut self, kind: u8) -> Record {
+        let uses = fields(kind).unwrap_or_default();
+        Record {
+            kind,
+            subject: if uses.subject { self.byte() } else { 0 },
+            group: if uses.group { self.byte() } else { 0 },
+            reason: if uses.reason { self.byte() } else { 0 },
+            amount: if uses.amount { self.short() } else { 0 },
+            ticks: if uses.ticks { self.long() } else { 0 },
+        }
     }
 }
 
@@ -89,32 +102,8 @@ fn listed(mut bytes: Bytes) -> Vec<u8> {
     let mut cut = 0;
     while !bytes.0.is_empty() && journal.len() < BLOCKS * BLOCK {
         let kind = bytes.byte() % 16;
-        let zero = Record {
-            kind,
-            ..Record::default()
-        };
         match kind {
-            kind::OPEN | kind::ADMIT => records.push(Record {
-                subject: bytes.byte(),
-                group: bytes.byte(),
-                amount: bytes.short(),
-                ..zero
-            }),
-            kind::CLOSE | kind::REMOVE | kind::WAKE => records.push(Record {
-                subject: bytes.byte(),
-                ..zero
-            }),
-            kind::DISPATCH => records.push(zero),
-            kind::REPORT => records.push(Record {
-                reason: bytes.byte(),
-                ticks: bytes.long(),
-                ..zero
-            }),
-            kind::START => records.push(Record {
-                amount: bytes.short(),
-                ticks: bytes.long(),
-                ..zero
-            }),
+            kind::OPEN..=kind::START => records.push(bytes.record(kind)),
             9 => under.push((bytes.short() as usize % BLOCK, bytes.byte())),
             10 => after.push((bytes.short() as usize % BLOCK, bytes.byte())),
             11 => cut = bytes.short() as usize % BLOCK,

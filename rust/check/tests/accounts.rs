@@ -2,7 +2,8 @@
 
 use check::compare::{both, start, to_library, to_model_entry};
 use model::accounts::Entry;
-use model::random::{call, edge_value, hostile_state, sound_state, Call, Rng};
+use model::calls::Call;
+use model::random::{call, edge_value, hostile_state, sound_state, Rng};
 use model::rule::{Scheduler, BLOCKED, FREE, METER_LIMIT, METER_MAX};
 use mtr::numbers;
 
@@ -44,7 +45,7 @@ fn lag_and_share(s: &Scheduler, number: u64) -> Result<(i64, u64), u32> {
     Ok((lag.result()?, share.result()? as u64))
 }
 
-/// The paper's lag and share of an admitted thread, in wide integers.
+/// The rule's lag and share of an admitted thread, in wide integers.
 fn plainly(s: &Scheduler, number: usize) -> (i128, u128) {
     let t = &s.threads[number];
     let growth = (s.meter - t.anchor) as i128;

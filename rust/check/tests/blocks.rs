@@ -293,78 +293,73 @@ fn written(r: &mut Rng) -> ([u8; BLOCK], u32, Vec<Record>) {
     (block, number, list)
 }
 
+/// A written block with one damage, perhaps of another length, and the number to read it as.
+fn damaged(r: &mut Rng) -> (Vec<u8>, u32) {
+    let (mut block, mut number, list) = written(r);
+    let place = r.below(512) as usize;
+    let records = 14 + RECORD * list.len();
+    match r.below(10) {
+        // Another length: cut off, longer, or any bytes.
+        0 => {
+            let length = r.range(0, 600) as usize;
+            let tail = (0..88).map(|_| r.bits() as u8);
+            let longer: Vec<u8> = block.iter().copied().chain(tail).collect();
+            return (longer[..length].to_vec(), number);
+        }
+        1 => {
+            let any = (0..r.range(0, 600)).map(|_| r.bits() as u8).collect();
+            return (any, number);
+        }
+        // One bit, one byte, several bytes.
+        2 => block[place] ^= 1 << r.below(8),
+        3 => {
+            for _ in 0..r.range(1, 4) {
+                block[r.below(512) as usize] = r.bits() as u8;
+            }
+        }
+        // The same under a right check.
+        4 => {
+            block[place % 510] ^= 1 << r.below(8);
+            seal(&mut block);
+        }
+        5 => {
+            // A record, mostly a byte that it does not use.
+            let at = r.range(14, records.max(15) as u64 - 1) as usize;
+            block[at] = r.edgy(0, 255) as u8;
+            seal(&mut block);
+        }
+        6 => {
+            block[r.range(4, 13) as usize] = r.edgy(0, 255) as u8;
+            seal(&mut block);
+        }
+        // Past the records.
+        7 => {
+            let at = r.range(records as u64, 509) as usize;
+            block[at] = r.edgy(0, 255) as u8;
+            seal(&mut block);
+        }
+        8 => {
+            for byte in &mut block {
+                *byte = r.bits() as u8;
+            }
+            if r.chance(1, 2) {
+                seal(&mut block);
+            }
+        }
+        _ => number = value(r, u32::MAX as u64) as u32,
+    }
+    (block.to_vec(), number)
+}
+
 #[test]
 fn damaged_reads() {
     let mut r = Rng::new(52);
     let mut reads = [0u64; 20];
     let mut lengths = [0u64; 601];
     for _ in 0..READS {
-        let (mut block, mut number, list) = written(&mut r);
-        let place = r.below(512) as usize;
-        let records = 14 + RECORD * list.len();
-        let mut area: &[u8] = &block;
-        let longer: Vec<u8>;
-        match r.below(10) {
-            // Another length: cut off, longer, or any bytes.
-            0 => {
-                let length = r.range(0, 600) as usize;
-                let tail = (0..88).map(|_| r.bits() as u8);
-                longer = block.iter().copied().chain(tail).collect();
-                area = &longer[..length];
-                lengths[length] += 1;
-            }
-            1 => {
-                longer = (0..r.range(0, 600)).map(|_| r.bits() as u8).collect();
-                area = &longer;
-            }
-            // One bit, one byte, several bytes.
-            2 => {
-                block[place] ^= 1 << r.below(8);
-                area = &block;
-            }
-            3 => {
-                for _ in 0..r.range(1, 4) {
-                    block[r.below(512) as usize] = r.bits() as u8;
-                }
-                area = &block;
-            }
-            // The same under a right check.
-            4 => {
-                block[place % 510] ^= 1 << r.below(8);
-                seal(&mut block);
-                area = &block;
-            }
-            5 => {
-                // A record, mostly a byte that it does not use.
-                let at = r.range(14, records.max(15) as u64 - 1) as usize;
-                block[at] = r.edgy(0, 255) as u8;
-                seal(&mut block);
-                area = &block;
-            }
-            6 => {
-                block[r.range(4, 13) as usize] = r.edgy(0, 255) as u8;
-                seal(&mut block);
-                area = &block;
-            }
-            // Past the records.
-            7 => {
-                let at = r.range(records as u64, 509) as usize;
-                block[at] = r.edgy(0, 255) as u8;
-                seal(&mut block);
-                area = &block;
-            }
-            8 => {
-                for byte in &mut block {
-                    *byte = r.bits() as u8;
-                }
-                if r.chance(1, 2) {
-                    seal(&mut block);
-                }
-                area = &block;
-            }
-            _ => number = value(&mut r, u32::MAX as u64) as u32,
-        }
-        let answer = read(area, number).err().unwrap_or(0);
+        let (area, number) = damaged(&mut r);
+        lengths[area.len()] += 1;
+        let answer = read(&area, number).err().unwrap_or(0);
         reads[answer as usize] += 1;
         if area.len() != 512 {
             assert_eq!(answer, 17);

@@ -2,7 +2,8 @@
 
 use check::compare::{both, kind, library, sound, start, to_library, Tally, KINDS};
 use model::accounts::Entry;
-use model::random::{broken_states, call, edge_value, hostile_state, sound_state, Call, Rng};
+use model::calls::Call;
+use model::random::{broken_states, call, edge_value, hostile_state, sound_state, Rng};
 use model::rule::{priority, Reply, Scheduler, METER_LIMIT, METER_MAX, NONE};
 use mtr::numbers;
 
@@ -274,7 +275,7 @@ fn edges() {
     assert_eq!(both(&mut s, Call::Dispatch), dispatched(63, 1_500, 0));
 }
 
-/// The paper's listing: answers, lags, roster and shares.
+/// The worked example of RULE 10: answers, lags, roster and shares.
 #[test]
 fn listing() {
     let mut s = start(100, 20_000).unwrap();

@@ -3,7 +3,8 @@
 use std::io::Write;
 
 use check::compare::{both, start, to_library};
-use model::random::{call, sound_state, Call, Rng};
+use model::calls::Call;
+use model::random::{call, sound_state, Rng};
 use model::rule::{Reply, Scheduler, BLOCKED, RUNNABLE};
 use mtr::numbers;
 

@@ -1,76 +1,123 @@
-//! The scheduler that a journal is run on. No other module knows which
-//! library makes the calls and keeps the accounts.
+//! What a journal is run on: [`Proved`], the proved library, which is the only
+//! one that the command `journal` has.
 
-use model::rule::Scheduler;
+use mtr::{Dispatch, Event, Scheduler};
 
-use crate::codec::{answer, kind, Record};
+use crate::codec::{answer, Record, NONE};
 
-pub use model::rule::{Reply, NONE, THREADS};
+/// Answers records and keeps the accounts. A fresh one has the default
+/// settings and no threads.
+pub trait Engine: Default {
+    /// Who answers, in a sentence for those who look at the result.
+    const SAYS: &'static str;
 
-/// A scheduler with the default settings and no threads, until records are
-/// run on it.
-#[derive(Clone, Debug, Default)]
-pub struct Engine {
-    state: Scheduler,
-}
-
-impl Engine {
     /// Makes the record's call. An accepted start replaces the state.
-    pub fn run(&mut self, r: &Record) -> Reply {
-        let s = &mut self.state;
-        let (subject, group, amount) = (r.subject as u64, r.group as u64, r.amount as u64);
-        Reply::plain(match r.kind {
-            kind::OPEN => s.open(subject, group, amount),
-            kind::CLOSE => s.close(subject),
-            kind::ADMIT => s.admit(subject, group, amount),
-            kind::REMOVE => s.remove(subject),
-            kind::WAKE => s.wake(subject),
-            kind::DISPATCH => return s.dispatch(),
-            kind::REPORT => s.report(r.reason as u64, r.ticks as u64),
-            kind::START => match Scheduler::start(amount, r.ticks as u64) {
-                Ok(state) => {
-                    *s = state;
-                    answer::ACCEPTED
-                }
-                Err(refusal) => refusal,
-            },
-            _ => answer::FORM,
-        })
-    }
+    fn run(&mut self, record: &Record) -> Reply;
 
     /// f × (meter since the anchor) − 1000 × (ticks since the anchor); 0 while
     /// blocked, and 0 for a number that is not admitted.
-    pub fn lag(&self, thread: u8) -> i64 {
-        self.state.lag(thread as u64).unwrap_or(0)
-    }
+    fn lag(&self, thread: u8) -> i64;
 
     /// Achieved share in thousandths, of an admitted thread.
-    pub fn share(&self, thread: u8) -> Option<u64> {
-        self.state.share(thread as u64).ok()
-    }
+    fn share(&self, thread: u8) -> Option<u64>;
 
-    /// Reservation in thousandths, of an admitted thread.
-    pub fn reservation(&self, thread: u8) -> Option<u64> {
-        let admitted = self.state.admitted(thread as u64);
-        admitted.then(|| self.state.threads[thread as usize].reservation as u64)
-    }
+    /// Reservation in thousandths and group, of an admitted thread.
+    fn place(&self, thread: u8) -> Option<(u64, u8)>;
 
     /// m and P.
-    pub fn settings(&self) -> (u64, u64) {
-        let s = &self.state.settings;
-        (s.thousandth as u64, s.interval as u64)
-    }
+    fn settings(&self) -> (u64, u64);
 
     /// The running thread.
-    pub fn running(&self) -> Option<u8> {
-        (self.state.running < NONE).then_some(self.state.running as u8)
+    fn running(&self) -> Option<u8>;
+}
+
+/// What a record is answered: 0 or the refusal, and for an accepted dispatch
+/// the thread, its slice and how many threads stood before it.
+#[derive(Clone, Copy, Debug, PartialEq, Eq, Default)]
+pub struct Reply {
+    pub answer: u32,
+    pub thread: u32,
+    pub slice: u32,
+    pub before: u32,
+}
+
+impl Reply {
+    /// An answer alone.
+    pub fn plain(answer: u32) -> Reply {
+        Reply {
+            answer,
+            ..Reply::default()
+        }
+    }
+}
+
+/// The most that the share guarantee lets the lag of a thread be:
+/// 2f(1000 − f)m + fP.
+pub fn bound(reservation: u64, (m, p): (u64, u64)) -> i64 {
+    let f = reservation;
+    (2 * f * (1000 - f) * m + f * p) as i64
+}
+
+/// Version of the proved library, as it is told.
+pub fn version() -> String {
+    let number = mtr::version();
+    let (major, minor, patch) = (number / 10_000, number / 100 % 100, number % 100);
+    format!("{major}.{minor}.{patch}")
+}
+
+/// The proved library.
+#[derive(Clone, Debug, Default)]
+pub struct Proved {
+    state: Scheduler,
+}
+
+impl Engine for Proved {
+    const SAYS: &'static str =
+        "Answers, shares and lags are computed anew from the journal's calls by the proved library.";
+
+    fn run(&mut self, record: &Record) -> Reply {
+        let called = Event::try_from(*record).and_then(|event| self.state.call(event));
+        match called {
+            Err(refusal) => Reply::plain(refusal.number()),
+            Ok(None) => Reply::plain(answer::ACCEPTED),
+            Ok(Some(Dispatch::Idle { before })) => Reply {
+                thread: NONE,
+                before,
+                ..Reply::default()
+            },
+            Ok(Some(Dispatch::Run {
+                thread,
+                slice,
+                before,
+            })) => Reply {
+                thread: thread.into(),
+                slice,
+                before,
+                ..Reply::default()
+            },
+        }
     }
 
-    /// The most that the share guarantee lets the lag of an admitted thread
-    /// be: 2f(1000 − f)m + fP.
-    pub fn bound(&self, thread: u8) -> Option<i64> {
-        let f = self.reservation(thread)?;
-        let (m, p) = self.settings();
-        Some((2 * f * (1000 - f) * m + f * p) as i64)
+    fn lag(&self, thread: u8) -> i64 {
+        self.state.lag(thread).unwrap_or(0)
+    }
+
+    fn share(&self, thread: u8) -> Option<u64> {
+        self.state.share(thread).ok().map(u64::from)
+    }
+
+    fn place(&self, thread: u8) -> Option<(u64, u8)> {
+        let admitted = self.state.list().contains(&thread);
+        let entry = self.state.as_raw().threads.get(thread as usize)?;
+        admitted.then_some((entry.reservation.into(), entry.group))
+    }
+
+    fn settings(&self) -> (u64, u64) {
+        let settings = self.state.settings();
+        (settings.thousandth.into(), settings.interval.into())
+    }
+
+    fn running(&self) -> Option<u8> {
+        self.state.running()
     }
 }

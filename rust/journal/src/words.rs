@@ -1,4 +1,4 @@
-//! The paper's words for answers.
+//! Words for answers.
 
 use crate::codec::{answer, kind};
 
@@ -28,7 +28,9 @@ pub fn refusal(kind: u8, number: u32) -> &'static str {
         (answer::REASON, _) => "reason above 3",
         (answer::METER, _) => "the meter is at its limit",
         (answer::UNSOUND, _) => "the state is not sound",
-        (answer::NOT_STARTED, _) => "not run: a block is damaged and no start accepted since",
+        (answer::NOT_STARTED, _) => {
+            "not run: a block is damaged or missing and no start accepted since"
+        }
         _ => damage(number),
     }
 }

@@ -1,7 +1,7 @@
 //! Reference model of the move-to-rear list scheduler.
 //!
-//! Written from paper 01 and the readings of its open points alone, without
-//! sight of any other implementation. It serves two ends: another
+//! Written from the description of the rule alone, which docs/RULE.md states,
+//! and without sight of any other implementation. It serves two ends: another
 //! implementation is compared with it, state by state and byte by byte, and
 //! its in-place calls are the baseline that the other one's speed is measured
 //! against.
@@ -10,6 +10,7 @@
 //! - [`by_value`]: the same calls on a state handed over and handed back.
 //! - [`accounts`]: lag, achieved share and the roster.
 //! - [`blocks`]: the 512-byte event blocks.
+//! - [`calls`]: the calls as values, and the records that stand for them.
 //! - [`replay`]: what `mtrrun` prints for a journal.
 //! - [`random`]: generators of states, calls and journals for tests.
 
@@ -18,6 +19,7 @@
 pub mod accounts;
 pub mod blocks;
 pub mod by_value;
+pub mod calls;
 pub mod random;
 pub mod replay;
 pub mod rule;

@@ -1,4 +1,4 @@
-//! The typed interface: the paper's listing, every refusal by name, event
+//! The typed interface: the listing of RULE 10, every refusal by name, event
 //! blocks and the roster.
 
 use mtr::{

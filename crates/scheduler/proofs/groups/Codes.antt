@@ -1,5 +1,5 @@
 -- The ways out of open, close and admit: which tests lead to which number, each the first check of the call that applies; and the
--- reply from the number and what the call stores.
+-- answer from the number and what the call stores.
 use Prim.Native.Nat.{ℕ, _+_, _%_, _≤_, _<_}
 use mathlib.Core.Path.{_≡_, refl, sym, ap, _∙_}
 use mathlib.Core.List.{List, [], _∷_}
@@ -20,8 +20,8 @@ use Rattle.scheduler.specs.State.{noThread, noGroup, threadAt, groupAt, 
 use Rattle.scheduler.specs.Sound.{load, sound}
 use Rattle.scheduler.specs.Refusals.{Call, openGroup, closeGroup, admit, free, checks, refusal}
 use Rattle.scheduler.specs.Effects.{newThread, join, effect}
-use Rattle.scheduler.specs.Rule.{isDispatch, step}
-use Rattle.scheduler.specs.Answers.{replyOf}
+use Rattle.scheduler.specs.Rule.{isDispatch}
+use Rattle.scheduler.specs.Answers.{answeredTo}
 use Rattle.scheduler.proofs.Facts.{facts, open-small, settings-facts}
 use Rattle.scheduler.proofs.Passed.{OpenOk, AdmitOk, passes, open-ok, close-ok, admit-ok}
 use Rattle.scheduler.proofs.threads.Replies.{answered, settled, rest}
@@ -118,7 +118,7 @@ clear c s k e t = sym e ∙ eqb-true k 0 t
 -- a call that stores one group
 group-done : (c : Call) (s : Scheduler) (n k : ℕ) (new : Group) → isDispatch c ≡ false → effect c s ≡ withGroup s n new → k ≡ refusal c s → (eqb k 0 ≡ true → n < 16)
     → (a : Answer) → a ≡ cond (eqb k 0) Accepted (Refused k) → (g : Group) → g ≡ cond (eqb k 0) new (groupAt s (n % 16))
-    → replyOf (answered a (withGroup s (n % 16) g)) ≡ step c s
+    → answered a (withGroup s (n % 16) g) ≡ answeredTo c s
 unfolding withGroup
 group-done c s n k new d f e small a q g u =
     settled c s (withGroup s (n % 16) g) d k e a q
@@ -139,7 +139,7 @@ module _ (s : Scheduler) (n p d k : ℕ) (e : k ≡ refusal (openGroup n p d) s)
   open-fits t = let o = opened t in (omega arith, omega arith)
 
   pub open-done : (a : Answer) → a ≡ cond (eqb k 0) Accepted (Refused k) → (g : Group) → g ≡ cond (eqb k 0) (record { ceiling = d; parent = p; opened = 1 }) (groupAt s (n % 16))
-      → replyOf (answered a (withGroup s (n % 16) g)) ≡ step (openGroup n p d) s
+      → answered a (withGroup s (n % 16) g) ≡ answeredTo (openGroup n p d) s
   unfolding isDispatch effect
   open-done a q g u = group-done (openGroup n p d) s n k (record { ceiling = d; parent = p; opened = 1 }) refl refl e (λ t. (opened t) .small) a q g u
 
@@ -148,7 +148,7 @@ module _ (s : Scheduler) (n k : ℕ) (e : k ≡ refusal (closeGroup n) s) where
   closed t = open-small s n ((close-ok s n ((passes (closeGroup n) s (clear (closeGroup n) s k e t)) .1)) .opened)
 
   pub close-done : (a : Answer) → a ≡ cond (eqb k 0) Accepted (Refused k) → (g : Group) → g ≡ cond (eqb k 0) noGroup (groupAt s (n % 16))
-      → replyOf (answered a (withGroup s (n % 16) g)) ≡ step (closeGroup n) s
+      → answered a (withGroup s (n % 16) g) ≡ answeredTo (closeGroup n) s
   unfolding isDispatch effect
   close-done a q g u = group-done (closeGroup n) s n k noGroup refl refl e closed a q g u
 
@@ -188,6 +188,6 @@ module _ (s : Scheduler) (n g f k : ℕ) (e : k ≡ refusal (admit n g f) s) whe
         cc (set-getD (s .threads) (n % 64) noThread, set-getD (s .order) (s .count % 64) 0) in
         same
 
-    pub admit-done : replyOf (answered a (entered s (n % 64) t (s .count % 64) o j)) ≡ step (admit n g f) s
+    pub admit-done : answered a (entered s (n % 64) t (s .count % 64) o j) ≡ answeredTo (admit n g f) s
     unfolding isDispatch
     admit-done = settled (admit n g f) s (entered s (n % 64) t (s .count % 64) o j) refl k e a q (λ z _. entered-new z) entered-old

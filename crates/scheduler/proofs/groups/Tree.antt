@@ -15,11 +15,11 @@ use Rattle.base.proofs.Bools.{by, and-l, is, holds}
 use Rattle.base.proofs.Sums.{sum-more, sum-none}
 use Rattle.scheduler.specs.declared.Group.{Group}
 use Rattle.scheduler.specs.declared.Scheduler.{Scheduler}
+use Rattle.scheduler.specs.declared.groups.Total.the-variants.{Thousandths, Refused}
 use Rattle.scheduler.specs.State.{noGroup, isOpen, groupAt, openAt}
 use Rattle.scheduler.specs.Sound.{reservedIn, childOf, sound}
-use Rattle.scheduler.specs.Tree.{subtreeTotal}
-use Rattle.scheduler.specs.Inner.{Sums}
-use Rattle.scheduler.specs.Subtree.{Subtree, subtreeRefusal, subtreeReply, Rooted}
+use Rattle.scheduler.specs.Tree.{subtreeTotal, subtreeRefusal, totalOf}
+use Rattle.scheduler.specs.Inner.{Sums, Rooted}
 use Rattle.scheduler.proofs.Facts.{Facts, facts, open-small}
 use Rattle.scheduler.proofs.Tree.{ifChild, subtree-step, subtree-most}
 use Rattle.scheduler.proofs.groups.Sums.{underOf, child-is, open-near}
@@ -104,15 +104,15 @@ module _ (xs : List Group) (used : List ℕ) (g c total : ℕ) (k : Below xs use
 
 -- The ways out of the call.
 module _ (s : Scheduler) (g : ℕ) where
-  pub total-unsound : sound s ≡ false → _≡_ {A = Subtree} record { answer = 16; thousandths = 0 } (subtreeReply s g)
-  unfolding subtreeReply subtreeRefusal firstOf
+  pub total-unsound : sound s ≡ false → Refused 16 ≡ totalOf s g
+  unfolding totalOf subtreeRefusal firstOf
   total-unsound w = rw w
 
   module _ (w : sound s ≡ true) where
-    pub total-closed : openAt s g ≡ false → _≡_ {A = Subtree} record { answer = 2; thousandths = 0 } (subtreeReply s g)
-    unfolding subtreeReply subtreeRefusal firstOf
+    pub total-closed : openAt s g ≡ false → Refused 2 ≡ totalOf s g
+    unfolding totalOf subtreeRefusal firstOf
     total-closed o = rw (w, o)
 
-    pub total-sum : openAt s g ≡ true → (v : ℕ) → v ≡ subtreeTotal s g → _≡_ {A = Subtree} record { answer = 0; thousandths = v } (subtreeReply s g)
-    unfolding subtreeReply subtreeRefusal firstOf
-    total-sum o v e = rw (w, o) (ap (λ (n : ℕ). record { answer = 0; thousandths = n }) e)
+    pub total-sum : openAt s g ≡ true → (v : ℕ) → v ≡ subtreeTotal s g → Thousandths v ≡ totalOf s g
+    unfolding totalOf subtreeRefusal firstOf
+    total-sum o v e = rw (w, o) (ap Thousandths e)

@@ -1,5 +1,5 @@
 -- Dispatch: the entry at the number of passed threads is the chosen thread, and where all are passed no thread is runnable. The two
--- answers of an accepted dispatch follow from what `accept` says of the chosen thread.
+-- answers of an accepted dispatch follow from what `acceptedAnswer` says of the chosen thread.
 use Prim.Native.Nat.{ℕ, _%_, min, _≤_, _<_}
 use mathlib.Core.Path.{_≡_, sym, ap, _∙_}
 use mathlib.Core.List.{[], _∷_}
@@ -17,16 +17,16 @@ use Rattle.order.proofs.Queue.{everyOf-entry, getD-any}
 use Rattle.scheduler.specs.declared.Scheduler.{Scheduler}
 use Rattle.scheduler.specs.declared.Answer.{Answer}
 use Rattle.scheduler.specs.declared.Answer.the-variants.{Refused, Idle, Run}
+use Rattle.scheduler.specs.declared.Answered.{Answered}
 use Rattle.scheduler.specs.State.{threadAt, runnableAt, reservedAt, allotmentAt, sliceAt, listed, withRun}
 use Rattle.scheduler.specs.Sound.{sound}
 use Rattle.scheduler.specs.Refusals.{dispatch, checks, refusal}
 use Rattle.scheduler.specs.Effects.{chosen, passedOver, effect}
-use Rattle.scheduler.specs.Rule.{Reply, isDispatch, accept, step}
-use Rattle.scheduler.specs.Answers.{numbersOf, replyOf}
+use Rattle.scheduler.specs.Rule.{isDispatch}
+use Rattle.scheduler.specs.Answers.{acceptedAnswer, answeredTo}
 use Rattle.scheduler.proofs.Facts.{Facts, facts, length-listed}
 use Rattle.scheduler.proofs.Passed.{passes, dispatch-passed}
-use Rattle.scheduler.proofs.Steps.{step-state}
-use Rattle.scheduler.proofs.threads.Replies.{answered, refused}
+use Rattle.scheduler.proofs.threads.Replies.{answered, answered-accepted, refused}
 
 -- an entry of the list is a thread's number
 pub entry : (s : Scheduler) → Facts s → (i : ℕ) → i < s .count → getD (s .order) i 0 < 64
@@ -41,17 +41,17 @@ pub dispatch-number : (s : Scheduler) (ok : Bool) → ok ≡ sound s
 unfolding refusal checks
 dispatch-number s ok e = ap (λ (b : Bool). firstOf ((not b ⇒ 16) ∷ (not (eqb (s .running) 64) ⇒ 12) ∷ (leb 10000000000000 (s .meter) ⇒ 15) ∷ [])) e
 
--- the reply where x is chosen
-abbrev taking : Scheduler → ℕ → Reply
-taking s x = record { answer = 0; thread = x; slice = cond (eqb x 64) 0 (sliceAt s x); before = passedOver s; state = withRun s x (s .meter) }
+-- the answer where x is chosen
+abbrev taking : Scheduler → ℕ → Answered
+taking s x = answered (cond (eqb x 64) (Idle (passedOver s)) (Run x (sliceAt s x) (passedOver s))) (withRun s x (s .meter))
 
 module _ (s : Scheduler) (e : refusal dispatch s ≡ 0) where
   dispatch-facts : Facts s
   dispatch-facts = facts s ((passes dispatch s e) .0)
 
-  replied : step dispatch s ≡ taking s (chosen s)
-  unfolding accept effect isDispatch
-  replied = step-state dispatch s e
+  replied : answeredTo dispatch s ≡ taking s (chosen s)
+  unfolding acceptedAnswer effect isDispatch
+  replied = answered-accepted dispatch s e
 
   module _ (n : ℕ) (q : n ≡ passedOver s) where
     found : n < s .count → getD (s .order) n 0 ≡ chosen s
@@ -69,21 +69,22 @@ module _ (s : Scheduler) (e : refusal dispatch s ≡ 0) where
         sym (passed-at (runnableAt s) (listed s))
         ∙ List·getD-eq-default (listed s) 64 (omega (arith, length-listed s dispatch-facts, q))
 
-    dispatch-idle : n ≡ s .count → replyOf (answered (Idle n) s) ≡ step dispatch s
-    unfolding replyOf numbersOf withRun
+    dispatch-idle : n ≡ s .count → answered (Idle n) s ≡ answeredTo dispatch s
+    unfolding withRun
     dispatch-idle h =
-        ap (λ (j : ℕ). numbersOf (Idle j) s) q
-        ∙ ap (λ (r : ℕ). numbersOf (Idle (passedOver s)) (withRun s r (s .meter))) (dispatch-passed s ((passes dispatch s e) .1))
+        ap (λ (j : ℕ). answered (Idle j) s) q
+        ∙ ap (λ (r : ℕ). answered (Idle (passedOver s)) (withRun s r (s .meter))) (dispatch-passed s ((passes dispatch s e) .1))
         ∙ sym (replied ∙ ap (taking s) (none h))
 
-    dispatch-run : n < s .count → (a : Answer) → a ≡ Run (getD (s .order) n 0) (min ((threadAt s (getD (s .order) n 0)) .allotment) (s .settings .interval)) n
-        → replyOf (answered a (withRun s (getD (s .order) n 0) (s .meter))) ≡ step dispatch s
-    unfolding replyOf numbersOf sliceAt allotmentAt
+    dispatch-run : n < s .count → (a : Answer)
+        → a ≡ Run (getD (s .order) n 0) (min ((threadAt s (getD (s .order) n 0)) .allotment) (s .settings .interval)) n
+        → answered a (withRun s (getD (s .order) n 0) (s .meter)) ≡ answeredTo dispatch s
+    unfolding sliceAt allotmentAt
     dispatch-run h a w =
         let x = getD (s .order) n 0 in
         let off : eqb x 64 ≡ false = ne-eqb x 64 (λ z. omega (arith, entry s dispatch-facts n h)) in
-        ap (λ (b : Answer). numbersOf b (withRun s x (s .meter))) w
-        ∙ ap (λ (j : ℕ). numbersOf (Run x (min ((threadAt s x) .allotment) (s .settings .interval)) j) (withRun s x (s .meter))) q
+        ap (λ (b : Answer). answered b (withRun s x (s .meter))) w
+        ∙ ap (λ (j : ℕ). answered (Run x (min ((threadAt s x) .allotment) (s .settings .interval)) j) (withRun s x (s .meter))) q
         ∙ sym (replied ∙ ap (taking s) (sym (found h)) ∙ rw off)
 
 -- The number k, and how much of the list is looked at.
@@ -121,7 +122,7 @@ module _ (s : Scheduler) (k : ℕ) (e : k ≡ refusal dispatch s) (count : ℕ) 
       → (slice : ℕ) → slice ≡ min ((threadAt s (getD (s .order) (i % 64) 0 % 64)) .allotment) (s .settings .interval)
       → (running : ℕ) → running ≡ cond (ltb i count) (getD (s .order) (i % 64) 0 % 64) (s .running)
       → (a : Answer) → a ≡ cond (eqb k 0) (cond (ltb i count) (Run (getD (s .order) (i % 64) 0 % 64) slice i) (Idle i)) (Refused k)
-      → replyOf (answered a (withRun s running (s .meter))) ≡ step dispatch s
+      → answered a (withRun s running (s .meter)) ≡ answeredTo dispatch s
   unfolding withRun passedOver listed
   dispatch-done i h p slice qs running qr a qa =
       cases (eqb k 0)
@@ -138,18 +139,18 @@ module _ (s : Scheduler) (k : ℕ) (e : k ≡ refusal dispatch s) (count : ℕ) 
       let run : running ≡ x = qr ∙ rw y same in
       let cut : slice ≡ min ((threadAt s x) .allotment) (s .settings .interval) = qs ∙ ap (λ (j : ℕ). min ((threadAt s j) .allotment) (s .settings .interval)) same in
       let taken : a ≡ Run x (min ((threadAt s x) .allotment) (s .settings .interval)) i = qa ∙ rw (z, y) (ap (λ (j : ℕ). Run j slice i) same ∙ ap (λ (j : ℕ). Run x j i) cut) in
-      ap (λ (j : ℕ). replyOf (answered a (withRun s j (s .meter)))) run ∙ dispatch-run s r i over (omega (arith, all)) a taken)
+      ap (λ (j : ℕ). answered a (withRun s j (s .meter))) run ∙ dispatch-run s r i over (omega (arith, all)) a taken)
       (λ y.
       let run : running ≡ s .running = qr ∙ rw y in
       let idle : a ≡ Idle i = qa ∙ rw (z, y) in
-      ap (λ (j : ℕ). replyOf (answered a (withRun s j (s .meter)))) run
-      ∙ ap (λ (b : Answer). replyOf (answered b s)) idle
+      ap (λ (j : ℕ). answered a (withRun s j (s .meter))) run
+      ∙ ap (λ (b : Answer). answered b s) idle
       ∙ dispatch-idle s r i over (omega (arith, all, ltb-false i count y))))
       (λ z.
       let none : count ≡ 0 = q ∙ rw z in
       let off : ltb i count ≡ false = le-ltb i count (omega (arith, none)) in
       let run : running ≡ s .running = qr ∙ rw off in
       let no : a ≡ Refused k = qa ∙ rw z in
-      ap (λ (j : ℕ). replyOf (answered a (withRun s j (s .meter)))) run
-      ∙ ap (λ (b : Answer). replyOf (answered b s)) no
+      ap (λ (j : ℕ). answered a (withRun s j (s .meter))) run
+      ∙ ap (λ (b : Answer). answered b s) no
       ∙ refused dispatch s k e (eqb-false k 0 z))

@@ -1,6 +1,6 @@
--- From a number and a state to a reply. A call's code finds the refusal's number and, where that is 0, the new state; `refused` and
--- `accepted` turn these into the reply of `step`. A thread number is looked up at its rest by 64: below 64 that is the number itself, and
--- above it the call is refused whatever the entry holds.
+-- From a number and a state to an answer. A call's code finds the refusal's number and, where that is 0, the new state; `refused` and
+-- `accepted` turn these into `answeredTo`, whose numbers are those of `step`. A thread number is looked up at its rest by 64: below 64
+-- that is the number itself, and above it the call is refused whatever the entry holds.
 use Prim.Native.Nat.{ℕ, _-_, _%_, _<_}
 use mathlib.Core.Path.{_≡_, refl, sym, ap, _∙_}
 use mathlib.Core.List.{List, [], _∷_, _++_, append-assoc}
@@ -9,51 +9,87 @@ use native.Mathlib.Omega.{arith}
 use lib.ListN.{set, take, drop}
 use lib.Seq.{set-getD}
 use lib.Dec.{T, ltb, eqb}
-use borrow.Author.Tests.{ltb-false, eqb-true, eqb-false}
+use borrow.Author.Tests.{ltb-false, eqb-true, eqb-false, ne-eqb}
 use Rattle.base.specs.Checks.{_⇒_, firstOf}
 use Rattle.base.specs.Lists.{without}
 use Rattle.order.specs.Queue.{requeue}
-use Rattle.base.proofs.Bools.{cases}
+use Rattle.base.proofs.Bools.{by, cases}
 use Rattle.base.proofs.Lists.{length-without}
 use Rattle.order.proofs.Queue.{requeue-once}
 use Rattle.scheduler.specs.declared.Thread.{Thread}
 use Rattle.scheduler.specs.declared.Scheduler.{Scheduler}
 use Rattle.scheduler.specs.declared.Answer.{Answer}
-use Rattle.scheduler.specs.declared.Answer.the-variants.{Accepted, Refused}
+use Rattle.scheduler.specs.declared.Answer.the-variants.{Accepted, Refused, Idle, Run}
 use Rattle.scheduler.specs.declared.Answered.{Answered}
-use Rattle.scheduler.specs.State.{noThread, threadAt, admittedAt, blockedAt, isAdmitted, isBlocked, listed, stateOf, withThread, withList}
+use Rattle.scheduler.specs.State.{noThread, threadAt, admittedAt, blockedAt, isAdmitted, isBlocked, listed, sliceAt, stateOf, withThread, withList}
 use Rattle.scheduler.specs.Sound.{sound}
-use Rattle.scheduler.specs.Refusals.{Call, wake, remove, checks, refusal}
-use Rattle.scheduler.specs.Effects.{rear, offList, wokenThread, effect}
-use Rattle.scheduler.specs.Rule.{isDispatch, accept, refuse, step}
-use Rattle.scheduler.specs.Answers.{numbersOf, replyOf}
+use Rattle.scheduler.specs.Refusals.{Call, wake, remove, checks, refusal, startRefusal}
+use Rattle.scheduler.specs.Effects.{rear, offList, wokenThread, chosen, passedOver, effect, started, unstarted}
+use Rattle.scheduler.specs.Rule.{isDispatch, accept, refuse, step, startReply}
+use Rattle.scheduler.specs.Answers.{acceptedAnswer, answerTo, answeredTo, startAnswered, numbersOf, replyOf}
 use Rattle.scheduler.proofs.Facts.{Facts, facts, length-listed}
 use Rattle.scheduler.proofs.Passed.{passes, remove-passed, wake-passed}
-use Rattle.scheduler.proofs.Steps.{step-state, refused-state}
 
 abbrev pub answered : Answer → Scheduler → Answered
 answered a s = record { answer = a; state = s }
 
-pub refused : (c : Call) (s : Scheduler) (k : ℕ) → k ≡ refusal c s → (k ≡ 0 → ⊥) → replyOf (answered (Refused k) s) ≡ step c s
-unfolding replyOf numbersOf refuse
-refused c s k e ne = ap (λ (j : ℕ). refuse j s) e ∙ sym (refused-state c s (λ z. ne (e ∙ z)))
+-- The numbers of what a call answers are those of `step`.
 
-pub accepted : (c : Call) (s s′ : Scheduler) → isDispatch c ≡ false → refusal c s ≡ 0 → s′ ≡ effect c s → replyOf (answered Accepted s′) ≡ step c s
-unfolding replyOf numbersOf accept
-accepted c s s′ d e q = ap (λ (z : Scheduler). numbersOf Accepted z) q ∙ sym (step-state c s e ∙ rw d)
+accept-numbers : (c : Call) (s : Scheduler) (d i : Bool) → isDispatch c ≡ d → eqb (chosen s) 64 ≡ i
+    → numbersOf (cond d (cond i (Idle (passedOver s)) (Run (chosen s) (sliceAt s (chosen s)) (passedOver s))) Accepted) (effect c s) ≡ accept c s
+unfolding numbersOf accept
+accept-numbers c s false i e f = rw e
+accept-numbers c s true true e f = rw (e, eqb-true (chosen s) 64 f)
+accept-numbers c s true false e f = rw (e, f)
+
+pub answer-numbers : (c : Call) (s : Scheduler) → replyOf (answeredTo c s) ≡ step c s
+unfolding replyOf answeredTo answerTo acceptedAnswer numbersOf step refuse accept
+answer-numbers c s =
+    let k = refusal c s in
+    by (λ b. numbersOf (cond b (acceptedAnswer c s) (Refused k)) ((cond b (accept c s) (refuse k s)) .state) ≡ cond b (accept c s) (refuse k s)) (eqb k 0)
+    (λ _. accept-numbers c s (isDispatch c) (eqb (chosen s) 64) refl refl)
+    (λ _. refl)
+
+pub call-numbers : (c : Call) (s : Scheduler) (x : Answered) → x ≡ answeredTo c s → replyOf x ≡ step c s
+call-numbers c s x e = ap replyOf e ∙ answer-numbers c s
+
+pub start-numbers : (m p : ℕ) → replyOf (startAnswered m p) ≡ startReply m p
+unfolding replyOf startAnswered numbersOf startReply refuse
+start-numbers m p =
+    let k = startRefusal m p in
+    let done = refuse 0 (started m p) in
+    let kept = refuse k unstarted in
+    by (λ b. numbersOf (cond b Accepted (Refused k)) ((cond b done kept) .state) ≡ cond b done kept) (eqb k 0) (λ _. refl) (λ _. refl)
+
+-- What a call answers, refused and accepted.
+
+answered-refused : (c : Call) (s : Scheduler) → (refusal c s ≡ 0 → ⊥) → answeredTo c s ≡ answered (Refused (refusal c s)) s
+unfolding answeredTo answerTo step refuse
+answered-refused c s ne = rw (ne-eqb (refusal c s) 0 ne)
+
+pub answered-accepted : (c : Call) (s : Scheduler) → refusal c s ≡ 0 → answeredTo c s ≡ answered (acceptedAnswer c s) (effect c s)
+unfolding answeredTo answerTo step accept
+answered-accepted c s e = rw e
+
+pub refused : (c : Call) (s : Scheduler) (k : ℕ) → k ≡ refusal c s → (k ≡ 0 → ⊥) → answered (Refused k) s ≡ answeredTo c s
+refused c s k e ne = ap (λ (j : ℕ). answered (Refused j) s) e ∙ sym (answered-refused c s (λ z. ne (e ∙ z)))
+
+pub accepted : (c : Call) (s s′ : Scheduler) → isDispatch c ≡ false → refusal c s ≡ 0 → s′ ≡ effect c s → answered Accepted s′ ≡ answeredTo c s
+unfolding acceptedAnswer
+accepted c s s′ d e q = ap (answered Accepted) q ∙ sym (answered-accepted c s e ∙ rw d)
 
 -- a call that is no dispatch, with the answer of its number: without a refusal the state is the effect's, and with one it is the same
 pub settled : (c : Call) (s s′ : Scheduler) → isDispatch c ≡ false → (k : ℕ) → k ≡ refusal c s → (a : Answer) → a ≡ cond (eqb k 0) Accepted (Refused k)
-    → (eqb k 0 ≡ true → refusal c s ≡ 0 → s′ ≡ effect c s) → (eqb k 0 ≡ false → s′ ≡ s) → replyOf (answered a s′) ≡ step c s
+    → (eqb k 0 ≡ true → refusal c s ≡ 0 → s′ ≡ effect c s) → (eqb k 0 ≡ false → s′ ≡ s) → answered a s′ ≡ answeredTo c s
 settled c s s′ d k e a q f g =
     cases (eqb k 0)
     (λ z.
     let r : refusal c s ≡ 0 = sym e ∙ eqb-true k 0 z in
     let w : a ≡ Accepted = q ∙ rw z in
-    ap (λ (x : Answer). replyOf (answered x s′)) w ∙ accepted c s s′ d r (f z r))
+    ap (λ (x : Answer). answered x s′) w ∙ accepted c s s′ d r (f z r))
     (λ z.
     let w : a ≡ Refused k = q ∙ rw z in
-    ap (λ (x : Answer). replyOf (answered x s′)) w ∙ ap (λ (x : Scheduler). replyOf (answered (Refused k) x)) (g z) ∙ refused c s k e (eqb-false k 0 z))
+    ap (λ (x : Answer). answered x s′) w ∙ ap (answered (Refused k)) (g z) ∙ refused c s k e (eqb-false k 0 z))
 
 -- Thread numbers.
 
@@ -122,7 +158,7 @@ module _ (s : Scheduler) (n : ℕ) where
       → (t : Thread) → t ≡ cond (eqb k 0) noThread (threadAt s (n % 64))
       → (list : List ℕ) → list ≡ cond (eqb k 0) (requeue (n % 64) (take (s .count) (s .order)) ++ drop (s .count) (s .order)) (s .order)
       → (count : ℕ) → count ≡ cond (eqb k 0) (s .count - 1) (s .count)
-      → replyOf (answered a (stateOf (set (s .threads) (n % 64) t) list (s .groups) (s .meter) (s .settings) count (s .running))) ≡ step (remove n) s
+      → answered a (stateOf (set (s .threads) (n % 64) t) list (s .groups) (s .meter) (s .settings) count (s .running)) ≡ answeredTo (remove n) s
   unfolding effect isDispatch offList withList withThread rear listed
   remove-done k e a q t qt list ql count qc =
       let s′ = stateOf (set (s .threads) (n % 64) t) list (s .groups) (s .meter) (s .settings) count (s .running) in
@@ -138,7 +174,7 @@ module _ (s : Scheduler) (n : ℕ) where
 
   pub wake-done : (k : ℕ) → k ≡ refusal (wake n) s → (a : Answer) → a ≡ cond (eqb k 0) Accepted (Refused k)
       → (t : Thread) → t ≡ cond (eqb k 0) (wokenThread s (threadAt s (n % 64))) (threadAt s (n % 64))
-      → replyOf (answered a (withThread s (n % 64) t)) ≡ step (wake n) s
+      → answered a (withThread s (n % 64) t) ≡ answeredTo (wake n) s
   unfolding effect isDispatch withThread
   wake-done k e a q t qt =
       settled (wake n) s (withThread s (n % 64) t) refl k e a q

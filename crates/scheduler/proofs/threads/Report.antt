@@ -20,8 +20,8 @@ use Rattle.scheduler.specs.State.{noThread, threadAt, sliceAt, allotment
 use Rattle.scheduler.specs.Sound.{sound}
 use Rattle.scheduler.specs.Refusals.{report, checks, refusal}
 use Rattle.scheduler.specs.Effects.{rear, toRear, offList, renewed, chargedThread, charged, exited, reported, effect}
-use Rattle.scheduler.specs.Rule.{isDispatch, step}
-use Rattle.scheduler.specs.Answers.{replyOf}
+use Rattle.scheduler.specs.Rule.{isDispatch}
+use Rattle.scheduler.specs.Answers.{answeredTo}
 use Rattle.scheduler.proofs.Facts.{facts, settings-facts}
 use Rattle.scheduler.proofs.Passed.{passes, report-passed}
 use Rattle.scheduler.proofs.threads.Replies.{answered, settled, rest, Listed, is-listed}
@@ -106,7 +106,7 @@ module _ (s : Scheduler) (reason used : ℕ) where
       → (meter : ℕ) → meter ≡ cond (eqb k 0) (s .meter + used) (s .meter)
       → (count : ℕ) → count ≡ cond (eqb k 0 && eqb reason 3) (s .count - 1) (s .count)
       → (running : ℕ) → running ≡ cond (eqb k 0) 64 (s .running)
-      → replyOf (answered a (stateOf (set (s .threads) (s .running % 64) t) list (s .groups) meter (s .settings) count running)) ≡ step (report reason used) s
+      → answered a (stateOf (set (s .threads) (s .running % 64) t) list (s .groups) meter (s .settings) count running) ≡ answeredTo (report reason used) s
   unfolding effect isDispatch reported
   report-done k e a q t qt moves qv list ql meter qm count qc running qr =
       let s′ = stateOf (set (s .threads) (s .running % 64) t) list (s .groups) meter (s .settings) count running in

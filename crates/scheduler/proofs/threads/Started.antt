@@ -1,4 +1,4 @@
--- Start: the bounds of accepted settings, and the two replies.
+-- Start: the bounds of accepted settings, and the two answers.
 use Prim.Native.Nat.{ℕ, _≤_}
 use mathlib.Core.Path.{_≡_, sym, ap, _∙_}
 use lib.ListN.{set}
@@ -12,7 +12,7 @@ use Rattle.scheduler.specs.State.{stateOf}
 use Rattle.scheduler.specs.Refusals.{startRefusal}
 use Rattle.scheduler.specs.Effects.{started, unstarted}
 use Rattle.scheduler.specs.Rule.{refuse, startReply}
-use Rattle.scheduler.specs.Answers.{numbersOf, replyOf}
+use Rattle.scheduler.specs.Answers.{startAnswered}
 use Rattle.scheduler.proofs.Passed.{start-passed}
 use Rattle.scheduler.proofs.threads.Replies.{answered}
 
@@ -23,16 +23,20 @@ module _ (m p : ℕ) where
       let b = start-passed m p e in
       (leb→le m 1000 (and-r (leb 1 m) (leb m 1000) (b .0)), leb→le p 1000000 (and-r (leb 1 p) (leb p 1000000) (b .1)))
 
-  module _ (z : Scheduler) (q : z ≡ unstarted) where
-    pub start-done : startRefusal m p ≡ 0
-        → replyOf (answered Accepted (stateOf (z .threads) (z .order) (set (z .groups) 0 (record { ceiling = 1000; parent = 0; opened = 1 })) (z .meter) (record { thousandth = m; interval = p }) (z .count) 64))
-        ≡ startReply m p
-    unfolding replyOf numbersOf startReply refuse started unstarted
-    start-done e =
-        ap (λ (y : Scheduler). replyOf (answered Accepted (stateOf (y .threads) (y .order) (set (y .groups) 0 (record { ceiling = 1000; parent = 0; opened = 1 })) (y .meter) (record { thousandth = m; interval = p }) (y .count) 64))) q
-        ∙ sym (rw e)
+  -- the zeros with the settings, group 0 and no running thread
+  abbrev given : Scheduler → Scheduler
+  given z =
+      stateOf (z .threads) (z .order) (set (z .groups) 0 (record { ceiling = 1000; parent = 0; opened = 1 })) (z .meter)
+      (record { thousandth = m; interval = p }) (z .count) 64
 
-    pub start-refused : (k : ℕ) → k ≡ startRefusal m p → (k ≡ 0 → ⊥) → replyOf (answered (Refused k) z) ≡ startReply m p
-    unfolding replyOf numbersOf startReply refuse
+  module _ (z : Scheduler) (q : z ≡ unstarted) where
+    pub start-done : startRefusal m p ≡ 0 → answered Accepted (given z) ≡ startAnswered m p
+    unfolding startAnswered startReply refuse started unstarted
+    start-done e = ap (λ (y : Scheduler). answered Accepted (given y)) q ∙ sym (rw e)
+
+    pub start-refused : (k : ℕ) → k ≡ startRefusal m p → (k ≡ 0 → ⊥) → answered (Refused k) z ≡ startAnswered m p
+    unfolding startAnswered startReply refuse
     start-refused k e ne =
-        ap (λ (y : Scheduler). refuse k y) q ∙ ap (λ (j : ℕ). refuse j unstarted) e ∙ sym (rw (ne-eqb (startRefusal m p) 0 (λ u. ne (e ∙ u))))
+        ap (answered (Refused k)) q
+        ∙ ap (λ (j : ℕ). answered (Refused j) unstarted) e
+        ∙ sym (rw (ne-eqb (startRefusal m p) 0 (λ u. ne (e ∙ u))))

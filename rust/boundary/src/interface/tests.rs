@@ -67,9 +67,7 @@ fn with(calls: &str) -> Result<Interface, Error> {
             "crates/abi/src/blocks.rt" => BLOCKS,
             "crates/scheduler/src/lib.rt" => SCHEDULER,
             "crates/scheduler/src/threads.rt" => RUN,
-            "crates/scheduler/src/priority.rt" => {
-                "pub const LOWEST: u64 = 1; pub const HIGHEST: u64 = 10;"
-            }
+            "crates/priority/src/lib.rt" => "pub const LEAST: u64 = 1; pub const MOST: u64 = 10;",
             "crates/record/src/lib.rt" => {
                 "#[repr(C)] pub struct Record { pub kind: u8, pub ticks: u32 }"
             }

@@ -72,3 +72,47 @@ pub const FLAGS: [&str; 6] = [
 pub fn archive() -> PathBuf {
     boundary::root().join("target/staticlib/libabi.a")
 }
+
+/// Runs the script of a repository on what is built there.
+pub fn dist(root: &Path, folder: &Path) -> Output {
+    run(Command::new(root.join("dist.sh"))
+        .arg("--no-build")
+        .arg(folder)
+        .env("REVISION", "test-1"))
+}
+
+/// The files in a folder, by their paths there.
+pub fn files(folder: &Path) -> Vec<String> {
+    let mut found = Vec::new();
+    let mut open = vec![folder.to_path_buf()];
+    while let Some(next) = open.pop() {
+        for entry in fs::read_dir(next).unwrap() {
+            let path = entry.unwrap().path();
+            match path.is_dir() {
+                true => open.push(path),
+                false => {
+                    let path = path.strip_prefix(folder).unwrap();
+                    found.push(path.to_str().unwrap().to_string());
+                }
+            }
+        }
+    }
+    found.sort_unstable();
+    found
+}
+
+/// The text between a line of README and the next that is not indented.
+pub fn shown(readme: &str, first: &str) -> String {
+    let mut lines = readme.lines().skip_while(|line| line.trim() != first);
+    let mut text = String::new();
+    for line in lines.by_ref() {
+        match line.strip_prefix("    ") {
+            Some(code) => text += code,
+            None if line.is_empty() => {}
+            None => break,
+        }
+        text.push('\n');
+    }
+    assert!(!text.is_empty(), "README has no {first}");
+    text
+}

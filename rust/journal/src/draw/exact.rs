@@ -2,14 +2,14 @@
 
 use std::fmt::Write;
 
-use crate::codec::Record;
-use crate::engine::THREADS;
+use crate::codec::THREADS;
+use crate::names::Names;
+use crate::scale::exact;
+use crate::track::{At, Life, Refused, Sink, Span, What};
 use crate::words;
 
 use super::layout::{Lane, Layout, Panel};
-use super::scale::duration;
 use super::svg::{escape, C};
-use super::track::{At, Life, Sink, Span, What};
 
 /// Narrowest run that is drawn.
 const NARROW: f64 = 0.8;
@@ -29,7 +29,7 @@ pub struct Shapes {
 
 /// Refusals at the same pixel.
 #[derive(Clone, Debug)]
-pub struct Refused {
+pub struct Cross {
     pub x: f64,
     pub answers: Vec<u32>,
     pub title: String,
@@ -37,10 +37,11 @@ pub struct Refused {
 
 pub struct Exact<'a> {
     layout: &'a Layout,
+    names: &'a Names,
     lanes: [Option<Lane>; THREADS],
     panels: [Option<Panel>; THREADS],
     pub shapes: Vec<Shapes>,
-    pub refused: Vec<Refused>,
+    pub crosses: Vec<Cross>,
     pub starts: Vec<f64>,
     /// Whether wakes have room for a triangle each.
     roomy: bool,
@@ -49,7 +50,7 @@ pub struct Exact<'a> {
 }
 
 impl<'a> Exact<'a> {
-    pub fn new(layout: &'a Layout, roomy: bool, titles: bool) -> Exact<'a> {
+    pub fn new(layout: &'a Layout, names: &'a Names, roomy: bool, titles: bool) -> Exact<'a> {
         let mut lanes = [None; THREADS];
         let mut panels = [None; THREADS];
         for lane in &layout.lanes {
@@ -60,10 +61,11 @@ impl<'a> Exact<'a> {
         }
         Exact {
             layout,
+            names,
             lanes,
             panels,
             shapes: vec![Shapes::default(); THREADS],
-            refused: Vec::new(),
+            crosses: Vec::new(),
             starts: Vec::new(),
             roomy,
             titles,
@@ -105,12 +107,14 @@ impl Sink for Exact<'_> {
         };
         let (x0, x1) = (self.layout.x(span.from), self.layout.x(span.end()));
         let middle = lane.top + lane.bar / 2.0;
+        let names = self.names;
         match span.what {
             What::Run => self.run(lane, x0, x1, || {
                 format!(
-                    "thread {n} has the core from {} to {}, from record {}",
-                    duration(span.from.time as f64),
-                    duration(span.to as f64),
+                    "{} has the core from {} to {}, from record {}",
+                    names.told(span.thread),
+                    exact(span.from.time),
+                    exact(span.to),
                     span.record
                 )
             }),
@@ -145,11 +149,12 @@ impl Sink for Exact<'_> {
         let Some(lane) = self.lanes[thread as usize] else {
             return;
         };
-        let x = self.layout.x(at);
+        let (x, names) = (self.layout.x(at), self.names);
         self.run(lane, x - NARROW / 2.0, x, || {
             format!(
-                "thread {thread} has the core at {} without a tick, from record {record}",
-                duration(at.time as f64)
+                "{} has the core at {} without a tick, from record {record}",
+                names.told(thread),
+                exact(at.time)
             )
         });
     }
@@ -185,30 +190,35 @@ impl Sink for Exact<'_> {
         };
     }
 
-    fn refusal(&mut self, at: At, number: u64, record: &Record, answer: u32) {
-        let x = self.layout.x(at);
-        let title = format!(
-            "record {number} refused: {answer}, {}",
-            words::refusal(record.kind, answer)
+    fn refusal(&mut self, r: &Refused) {
+        let x = self.layout.x(r.at);
+        let mut title = format!(
+            "record {} refused: {}, {}",
+            r.number,
+            r.answer,
+            words::refusal(r.record.kind, r.answer)
         );
-        match self.refused.last_mut() {
+        if let Some(thread) = r.thread {
+            let _ = write!(title, " ({})", self.names.told(thread));
+        }
+        match self.crosses.last_mut() {
             Some(last) if x - last.x < 1.0 => {
-                if !last.answers.contains(&answer) {
-                    last.answers.push(answer);
+                if !last.answers.contains(&r.answer) {
+                    last.answers.push(r.answer);
                 }
                 if last.title.len() < 1000 {
                     let _ = write!(last.title, "\n{title}");
                 }
             }
-            _ => self.refused.push(Refused {
+            _ => self.crosses.push(Cross {
                 x,
-                answers: vec![answer],
+                answers: vec![r.answer],
                 title,
             }),
         }
     }
 
-    fn start(&mut self, at: At, _: (u64, u64)) {
+    fn start(&mut self, at: At, _: u64) {
         self.starts.push(self.layout.x(at));
     }
 }

@@ -1,19 +1,25 @@
 //! Where things stand in the picture.
 
-use super::survey::Survey;
-use super::track::At;
+use crate::codec::GROUPS;
+use crate::names::Names;
+use crate::track::{At, Survey};
 
-/// Width of the picture and of its plots, and where these begin.
+use super::svg::bold;
+
+/// Width of the picture, and where its plots end.
 pub const WIDTH: f64 = 1120.0;
-pub const LEFT: f64 = 170.0;
-pub const PLOT: f64 = 860.0;
-pub const RIGHT: f64 = LEFT + PLOT;
-/// Pixel columns of a plot.
-pub const COLUMNS: usize = PLOT as usize;
+pub const RIGHT: f64 = 1010.0;
+/// Where the plots begin, at the least and at the most, by the names' length.
+const LEFT: (f64, f64) = (170.0, 330.0);
+/// Where labels begin, and what a lane's reservation takes beside its name.
+pub const MARGIN: f64 = 16.0;
+const RESERVED: f64 = 66.0;
+/// A level of groups moves its lanes' labels in by so much.
+pub const INDENT: f64 = 10.0;
 
 /// Widest gap, and the most that all gaps together take of a plot.
 const GAP: f64 = 24.0;
-const GAPS: f64 = 0.3 * PLOT;
+const GAPS: f64 = 0.3;
 
 /// A thread's lane: the bar of who has the core, its wakes below it.
 #[derive(Clone, Copy, Debug)]
@@ -21,6 +27,17 @@ pub struct Lane {
     pub thread: u8,
     pub top: f64,
     pub bar: f64,
+    /// Where its label begins.
+    pub label: f64,
+}
+
+/// A group's line above its lanes, and where the last of them ends.
+#[derive(Clone, Copy, Debug)]
+pub struct Heading {
+    pub group: u8,
+    pub depth: usize,
+    pub top: f64,
+    pub bottom: f64,
 }
 
 /// A thread's lag over time. Lags above 0 and below 0 share a scale unless
@@ -70,10 +87,15 @@ impl Panel {
 
 #[derive(Clone, Debug)]
 pub struct Layout {
+    from: At,
     per_tick: f64,
     pub gap: f64,
+    /// Where the plots begin, and how wide they are.
+    pub left: f64,
+    pub plot: f64,
     /// Lines of labels above the lanes, for starts and damaged blocks.
     pub flags: f64,
+    pub groups: Vec<Heading>,
     pub lanes: Vec<Lane>,
     pub pitch: f64,
     /// Top of the lane of refusals, if there are any.
@@ -85,6 +107,10 @@ pub struct Layout {
     pub panels: Vec<Panel>,
     /// The lag plots' lower edge.
     pub floor: f64,
+    /// Base line of the refusals' heading.
+    pub key: f64,
+    /// Base line of the last line.
+    pub footer: f64,
     pub height: f64,
 }
 
@@ -94,44 +120,90 @@ pub const REFUSALS: f64 = 30.0;
 const PANELS: f64 = 26.0;
 /// From the lanes' lower edge to the end of the axis below it.
 const AXIS: f64 = 42.0;
+/// Height of a group's line.
+const GROUP: f64 = 22.0;
+/// Height of a line of words about refusals, and the most of them.
+pub const WORDS: f64 = 18.0;
+pub const MOST_WORDS: usize = 24;
+
+/// What stands beside the plot, from above.
+#[derive(Clone, Copy, Debug, PartialEq, Eq)]
+enum Row {
+    Group { group: u8, depth: usize },
+    Thread { thread: u8, depth: usize },
+}
+
+/// Lanes in the order of their numbers or, if groups were opened, group by
+/// group down the tree.
+fn rows(survey: &Survey) -> Vec<Row> {
+    let numbers: Vec<u8> = survey.admitted().collect();
+    if survey.groups.iter().all(Option::is_none) {
+        let lane = |thread| Row::Thread { thread, depth: 0 };
+        return numbers.into_iter().map(lane).collect();
+    }
+    // Parents have lower numbers.
+    let mut shown = [false; GROUPS];
+    for group in (0..GROUPS).rev() {
+        let lanes = numbers
+            .iter()
+            .any(|&n| survey.threads[n as usize].group as usize == group);
+        let entry = survey.groups[group];
+        shown[group] |= lanes || entry.is_some_and(|entry| entry.open);
+        if let Some(entry) = entry.filter(|_| shown[group]) {
+            shown[entry.parent as usize] = true;
+        }
+    }
+    let mut rows = Vec::new();
+    below(survey, &shown, 0, 0, &mut rows);
+    rows
+}
+
+/// A group's line, its lanes and the groups below it.
+fn below(survey: &Survey, shown: &[bool; GROUPS], group: u8, depth: usize, rows: &mut Vec<Row>) {
+    rows.push(Row::Group { group, depth });
+    for thread in survey.admitted() {
+        if survey.threads[thread as usize].group == group {
+            rows.push(Row::Thread { thread, depth });
+        }
+    }
+    for child in group + 1..GROUPS as u8 {
+        let entry = survey.groups[child as usize];
+        if shown[child as usize] && entry.is_some_and(|entry| entry.parent == group) {
+            below(survey, shown, child, depth + 1, rows);
+        }
+    }
+}
 
 impl Layout {
-    pub fn new(survey: &Survey) -> Layout {
-        let numbers: Vec<u8> = survey.numbers().collect();
-        let gap = match survey.gaps.len() {
-            0 => 0.0,
-            gaps => GAP.min(GAPS / gaps as f64),
-        };
-        let free = PLOT - gap * survey.gaps.len() as f64;
-        let per_tick = match survey.time {
-            0 => 0.0,
-            time => free / time as f64,
-        };
+    pub fn new(survey: &Survey, names: &Names) -> Layout {
+        let rows = rows(survey);
+        let threads: Vec<u8> = survey.admitted().collect();
+        let longest = threads.iter().map(|&n| bold(&names.label(n), 12.0));
+        let deepest = rows.iter().map(|row| match row {
+            Row::Group { depth, .. } => (depth + 1) as f64 * INDENT,
+            Row::Thread { .. } => 0.0,
+        });
+        let labels = longest.fold(0.0, f64::max) + deepest.fold(0.0, f64::max);
+        let left = (MARGIN + labels + RESERVED).clamp(LEFT.0, LEFT.1).round();
+        let plot = RIGHT - left;
+        let (gap, per_tick) = scale(survey, plot);
 
-        let (pitch, bar, panel) = match numbers.len() {
+        let (pitch, bar, panel) = match threads.len() {
             0..=4 => (34.0, 18.0, 92.0),
             5..=8 => (28.0, 15.0, 70.0),
             9..=16 => (24.0, 12.0, 48.0),
             _ => (19.0, 9.0, 32.0),
         };
-        let flags = if survey.gaps.is_empty() && survey.starts < 2 {
-            104.0
-        } else {
-            122.0
+        let flags = match survey.gaps.is_empty() && survey.starts < 2 {
+            true => 104.0,
+            false => 122.0,
         };
-        let mut y = flags + 26.0;
-        let lanes: Vec<Lane> = numbers
-            .iter()
-            .enumerate()
-            .map(|(i, &thread)| Lane {
-                thread,
-                top: y + i as f64 * pitch,
-                bar,
-            })
-            .collect();
-        // With no thread, room for a line that says so.
-        y += pitch * numbers.len().max(1) as f64;
-        let refusals = (survey.refusals > 0).then_some(y);
+        let (groups, lanes, mut y) = stack(&rows, flags + 26.0, pitch, bar);
+        if threads.is_empty() {
+            // Room for a line that says so.
+            y += pitch;
+        }
+        let refusals = (!survey.refusals.is_empty()).then_some(y);
         if refusals.is_some() {
             y += REFUSALS;
         }
@@ -139,22 +211,28 @@ impl Layout {
         let heading = axis + AXIS + 34.0;
         let mut y = heading + 34.0;
         let mut panels = Vec::new();
-        for &thread in &numbers {
-            let t = &survey.threads[thread as usize];
-            let largest = t.bound.max(t.largest);
-            panels.push(Panel::new(thread, y, panel, largest, t.lowest));
+        for lane in &lanes {
+            let t = &survey.threads[lane.thread as usize];
+            let largest = t.bound.max(t.largest.lag);
+            panels.push(Panel::new(lane.thread, y, panel, largest, t.lowest));
             y += panel + PANELS;
         }
         let floor = y - PANELS + 12.0;
-        let height = if numbers.is_empty() {
-            axis + AXIS + 10.0
-        } else {
-            floor + AXIS + 10.0
+        let plots = if threads.is_empty() { axis } else { floor };
+        let key = plots + AXIS + 30.0;
+        let words = match survey.refusals.len().min(MOST_WORDS) {
+            0 => 0.0,
+            lines => lines as f64 * WORDS + 36.0,
         };
+        let footer = plots + AXIS + words + 26.0;
         Layout {
+            from: survey.from,
             per_tick,
             gap,
+            left,
+            plot,
             flags,
+            groups,
             lanes,
             pitch,
             refusals,
@@ -162,11 +240,75 @@ impl Layout {
             heading,
             panels,
             floor,
-            height,
+            key,
+            footer,
+            height: footer + 14.0,
         }
     }
 
     pub fn x(&self, at: At) -> f64 {
-        LEFT + self.per_tick * at.time as f64 + self.gap * at.gaps as f64
+        let time = at.time as f64 - self.from.time as f64;
+        let gaps = at.gaps as f64 - self.from.gaps as f64;
+        self.left + self.per_tick * time + self.gap * gaps
     }
+
+    /// Pixel columns of a plot.
+    pub fn columns(&self) -> usize {
+        self.plot as usize
+    }
+
+    /// Room for a name that begins at x.
+    pub fn room(&self, x: f64) -> f64 {
+        self.left - RESERVED - x + 4.0
+    }
+}
+
+/// Widths of a gap and of a tick.
+fn scale(survey: &Survey, plot: f64) -> (f64, f64) {
+    let gaps = survey.gaps.len() as f64;
+    let gap = match survey.gaps.is_empty() {
+        true => 0.0,
+        false => GAP.min(GAPS * plot / gaps),
+    };
+    let free = plot - gap * gaps;
+    match survey.time() {
+        0 => (gap, 0.0),
+        time => (gap, free / time as f64),
+    }
+}
+
+/// Puts the rows below each other, and answers where they end.
+fn stack(rows: &[Row], top: f64, pitch: f64, bar: f64) -> (Vec<Heading>, Vec<Lane>, f64) {
+    let mut y = top;
+    let (mut groups, mut lanes): (Vec<Heading>, Vec<Lane>) = (Vec::new(), Vec::new());
+    for row in rows {
+        match *row {
+            Row::Group { group, depth } => {
+                groups.push(Heading {
+                    group,
+                    depth,
+                    top: y,
+                    bottom: y + GROUP,
+                });
+                y += GROUP;
+            }
+            Row::Thread { thread, depth } => {
+                let inside = if groups.is_empty() { 0 } else { depth + 1 };
+                lanes.push(Lane {
+                    thread,
+                    top: y,
+                    bar,
+                    label: MARGIN + inside as f64 * INDENT,
+                });
+                y += pitch;
+            }
+        }
+    }
+    // A group reaches down to the next line that is not below it.
+    for i in 0..groups.len() {
+        let depth = groups[i].depth;
+        let next = groups[i + 1..].iter().find(|later| later.depth <= depth);
+        groups[i].bottom = next.map_or(y, |later| later.top) - 6.0;
+    }
+    (groups, lanes, y)
 }

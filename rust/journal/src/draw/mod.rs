@@ -2,35 +2,37 @@
 //! it each thread's lag with the bound of the share guarantee.
 //!
 //! The journal is run twice: once for what there is in all, from which the
-//! picture is laid out, and once for the shapes. A journal of few spans is
-//! drawn span by span; of many, each pixel column shows what fell into it. So
-//! the size of the picture does not grow with the journal.
+//! picture is laid out, and once for the shapes. A journal or a part of few
+//! spans is drawn span by span; of many, each pixel column shows what fell into
+//! it. So the size of the picture does not grow with the journal.
 
+mod axis;
 mod exact;
+mod heading;
+mod key;
+mod lags;
+mod lanes;
 mod layout;
 mod picture;
-mod scale;
-mod survey;
 mod svg;
 mod thin;
-mod track;
 
-use std::collections::BTreeMap;
-
+use crate::engine::Engine;
+use crate::names::Names;
+use crate::playback::Journal;
 use crate::progress::Progress;
 use crate::text::Tally;
+use crate::track::{Survey, Thread, View};
 
 use layout::Layout;
 use picture::Picture;
-use survey::Survey;
-use track::track;
 
-/// What a picture says beside what the journal holds.
+/// What a picture shows of a journal, and what it says beside.
 #[derive(Clone, Debug, Default)]
 pub struct Options {
     pub title: Option<String>,
-    /// Names of threads.
-    pub names: BTreeMap<u8, String>,
+    pub names: Names,
+    pub view: View,
 }
 
 /// Drawn span by span up to so many spans or wakes a thread, refusals, starts
@@ -42,30 +44,29 @@ const FEW_TITLES: u64 = 400;
 /// Up to so many wakes a thread each has a triangle.
 const FEW_WAKES: u64 = 100;
 
-/// A picture, and what blocks it was made of.
+/// A picture, and what blocks the journal has.
 #[derive(Clone, Debug, PartialEq, Eq)]
 pub struct Drawing {
     pub svg: String,
     pub tally: Tally,
 }
 
-/// Draws a journal.
-pub fn draw(journal: &[u8], options: &Options, progress: &mut Progress) -> Drawing {
-    let mut survey = Survey::default();
+/// Draws a journal. If the part to be shown is not there, says so.
+pub fn draw<E: Engine>(
+    journal: Journal,
+    options: &Options,
+    progress: &mut Progress,
+) -> Result<Drawing, String> {
     progress.doing("running");
-    track(journal, progress, &mut survey);
-    let layout = Layout::new(&survey);
+    let window = options.view.locate::<E>(journal, progress)?;
+    let survey = options.view.survey::<E>(journal, &window, progress)?;
+    let layout = Layout::new(&survey, &options.names);
     progress.doing("drawing");
-    let svg = Picture::new(&survey, &layout, options).whole(journal, progress);
-    let first = survey.gaps.first();
-    Drawing {
-        svg,
-        tally: Tally {
-            blocks: survey.blocks,
-            damaged: survey.damaged,
-            first: first.map(|gap| (gap.first, gap.refusal)),
-        },
-    }
+    let picture = Picture::new(&survey, &layout, options, &window);
+    Ok(Drawing {
+        svg: picture.whole::<E>(journal, progress),
+        tally: survey.tally,
+    })
 }
 
 /// How closely a journal is drawn.
@@ -79,9 +80,9 @@ enum Detail {
 
 impl Detail {
     fn of(s: &Survey) -> Detail {
-        let most = |count: fn(&survey::Thread) -> u64| s.threads.iter().map(count).max();
+        let most = |count: fn(&Thread) -> u64| s.threads.iter().map(count).max();
         let spans: u64 = s.threads.iter().map(|t| t.spans).sum();
-        let marks = s.refusals.max(s.starts).max(s.gaps.len() as u64);
+        let marks = s.refused().max(s.starts).max(s.gaps.len() as u64);
         if most(|t| t.spans.max(t.wakes)) > Some(FEW) || spans > FEW_IN_ALL || marks > FEW {
             return Detail::Thin;
         }

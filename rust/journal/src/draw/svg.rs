@@ -40,9 +40,52 @@ impl std::fmt::Display for C {
     }
 }
 
-/// Rough width of a text in a sans-serif font.
+/// Width of a character in parts of its size, by the widest font of the style.
+fn ems(c: char) -> f64 {
+    match c {
+        'i' | 'j' | 'l' | 'I' | '.' | ',' | ':' | ';' | '\'' | '|' | '!' => 0.31,
+        't' | 'f' | 'r' | '(' | ')' | '[' | ']' | '-' | ' ' | '/' | '\u{b7}' => 0.4,
+        'w' => 0.82,
+        'm' | 'M' | 'W' | '%' | '@' | '\u{2026}' => 1.0,
+        '\u{2030}' => 1.35,
+        'A'..='Z' => 0.7,
+        ' '..='~' => 0.62,
+        '\u{1f000}'.. => 1.4,
+        '\u{1100}'.. => 1.05,
+        _ => 0.64,
+    }
+}
+
+/// Rough width of a text, by the widest font of the style.
 pub fn width(text: &str, size: f64) -> f64 {
-    text.chars().count() as f64 * size * 0.58
+    text.chars().map(ems).sum::<f64>() * size
+}
+
+/// Bold text is wider by so much.
+const BOLD: f64 = 1.13;
+
+/// Rough width of a text in bold.
+pub fn bold(text: &str, size: f64) -> f64 {
+    BOLD * width(text, size)
+}
+
+/// The text, or as much of its beginning as has room, with a mark.
+pub fn fit(text: &str, size: f64, room: f64) -> String {
+    if bold(text, size) <= room {
+        return text.to_string();
+    }
+    let mut out = String::new();
+    let mut end = bold("\u{2026}", size);
+    for c in text.chars() {
+        end += BOLD * size * ems(c);
+        if end > room {
+            break;
+        }
+        out.push(c);
+    }
+    out.truncate(out.trim_end().len());
+    out.push('\u{2026}');
+    out
 }
 
 #[derive(Clone, Copy, PartialEq, Eq)]
@@ -81,6 +124,17 @@ impl Svg {
         ));
     }
 
+    /// A text at its left end that tells more when pointed at.
+    pub fn titled(&mut self, x: f64, y: f64, class: &str, text: &str, title: &str) {
+        self.put(format_args!(
+            "<text x=\"{}\" y=\"{}\" class=\"{class}\">{}<title>{}</title></text>",
+            C(x),
+            C(y),
+            escape(text),
+            escape(title)
+        ));
+    }
+
     /// A path in one of the style's classes, unless it is empty.
     pub fn path(&mut self, class: &str, d: &str) {
         if !d.is_empty() {
@@ -110,6 +164,23 @@ mod tests {
             .map(|&v| C(v).to_string())
             .collect();
         assert_eq!(texts, ["1", "1.5", "-0.25", "0", "0", "12.35"]);
+    }
+
+    #[test]
+    fn texts_are_cut_where_the_room_ends() {
+        assert_eq!(fit("readout", 12.0, 100.0), "readout");
+        for text in [
+            "readout of the detector",
+            "WWWWWWWWWWWWWW",
+            "\u{8b80}\u{307f}\u{53d6}\u{308a}\u{8b80}\u{307f}\u{53d6}\u{308a}\u{8b80}",
+        ] {
+            let cut = fit(text, 12.0, 100.0);
+            assert!(
+                cut.ends_with('\u{2026}') && bold(&cut, 12.0) <= 100.0,
+                "{cut}"
+            );
+            assert!(bold(&cut, 12.0) > 80.0, "{cut}");
+        }
     }
 
     #[test]

@@ -4,12 +4,11 @@
 
 use std::fmt::Write;
 
-use crate::codec::Record;
-use crate::engine::THREADS;
+use crate::codec::THREADS;
+use crate::track::{At, Life, Refused, Sink, Span, What};
 
-use super::layout::{Layout, Panel, COLUMNS, LEFT};
+use super::layout::{Layout, Panel};
 use super::svg::C;
-use super::track::{At, Life, Sink, Span, What};
 
 /// The columns of one thread.
 #[derive(Clone, Debug)]
@@ -25,33 +24,34 @@ pub struct Columns {
 }
 
 impl Columns {
-    fn new() -> Columns {
+    fn new(columns: usize) -> Columns {
         Columns {
-            run: vec![0.0; COLUMNS],
-            blocked: vec![0.0; COLUMNS],
-            here: vec![0.0; COLUMNS],
-            wakes: vec![0; COLUMNS],
-            lags: vec![(f64::INFINITY, f64::NEG_INFINITY); COLUMNS],
-            bound: vec![0.0; COLUMNS],
+            run: vec![0.0; columns],
+            blocked: vec![0.0; columns],
+            here: vec![0.0; columns],
+            wakes: vec![0; columns],
+            lags: vec![(f64::INFINITY, f64::NEG_INFINITY); columns],
+            bound: vec![0.0; columns],
         }
     }
 }
 
-fn column(x: f64) -> usize {
-    ((x - LEFT).max(0.0) as usize).min(COLUMNS - 1)
-}
-
 /// The columns that a stretch of x touches, each with the part of the stretch
 /// in it.
-fn parts(x0: f64, x1: f64) -> impl Iterator<Item = (usize, f64, f64)> {
-    (column(x0)..=column(x1)).map(move |c| {
-        let edge = LEFT + c as f64;
+fn parts(layout: &Layout, x0: f64, x1: f64) -> impl Iterator<Item = (usize, f64, f64)> {
+    let left = layout.left;
+    (column(layout, x0)..=column(layout, x1)).map(move |c| {
+        let edge = left + c as f64;
         (c, x0.max(edge), x1.min(edge + 1.0))
     })
 }
 
-fn cover(columns: &mut [f32], x0: f64, x1: f64) {
-    for (c, from, to) in parts(x0, x1) {
+fn column(layout: &Layout, x: f64) -> usize {
+    ((x - layout.left).max(0.0) as usize).min(layout.columns() - 1)
+}
+
+fn cover(layout: &Layout, columns: &mut [f32], x0: f64, x1: f64) {
+    for (c, from, to) in parts(layout, x0, x1) {
         columns[c] += (to - from).max(0.0) as f32;
     }
 }
@@ -68,8 +68,8 @@ impl<'a> Thin<'a> {
         Thin {
             layout,
             threads: vec![None; THREADS],
-            refusals: vec![0; COLUMNS],
-            starts: vec![false; COLUMNS],
+            refusals: vec![0; layout.columns()],
+            starts: vec![false; layout.columns()],
         }
     }
 
@@ -88,18 +88,20 @@ impl<'a> Thin<'a> {
     }
 
     fn columns(&mut self, thread: u8) -> &mut Columns {
-        self.threads[thread as usize].get_or_insert_with(|| Box::new(Columns::new()))
+        let columns = self.layout.columns();
+        self.threads[thread as usize].get_or_insert_with(|| Box::new(Columns::new(columns)))
     }
 }
 
 impl Sink for Thin<'_> {
     fn span(&mut self, span: &Span) {
-        let (x0, x1) = (self.layout.x(span.from), self.layout.x(span.end()));
+        let layout = self.layout;
+        let (x0, x1) = (layout.x(span.from), layout.x(span.end()));
         let columns = self.columns(span.thread);
         match span.what {
-            What::Run => cover(&mut columns.run, x0, x1),
+            What::Run => cover(layout, &mut columns.run, x0, x1),
             What::Wait => {}
-            What::Blocked => cover(&mut columns.blocked, x0, x1),
+            What::Blocked => cover(layout, &mut columns.blocked, x0, x1),
         }
         let (lag, last) = (span.lag as f64, span.last_lag() as f64);
         let slope = if x1 > x0 {
@@ -107,7 +109,7 @@ impl Sink for Thin<'_> {
         } else {
             0.0
         };
-        for (c, from, to) in parts(x0, x1) {
+        for (c, from, to) in parts(layout, x0, x1) {
             let (mut a, mut b) = (lag + slope * (from - x0), lag + slope * (to - x0));
             // Where the whole span lies in a column its ends count as they are.
             if from == x0 {
@@ -127,31 +129,32 @@ impl Sink for Thin<'_> {
             time: life.to,
             ..life.from
         };
-        let (x0, x1) = (self.layout.x(life.from), self.layout.x(to));
+        let layout = self.layout;
+        let (x0, x1) = (layout.x(life.from), layout.x(to));
         let columns = self.columns(life.thread);
-        cover(&mut columns.here, x0, x1);
-        for (c, _, _) in parts(x0, x1) {
+        cover(layout, &mut columns.here, x0, x1);
+        for (c, _, _) in parts(layout, x0, x1) {
             columns.bound[c] = columns.bound[c].max(life.bound as f64);
         }
     }
 
     fn wake(&mut self, thread: u8, at: At, _: u64) {
-        let c = column(self.layout.x(at));
+        let c = column(self.layout, self.layout.x(at));
         self.columns(thread).wakes[c] += 1;
     }
 
-    fn refusal(&mut self, at: At, _: u64, _: &Record, _: u32) {
-        self.refusals[column(self.layout.x(at))] += 1;
+    fn refusal(&mut self, r: &Refused) {
+        self.refusals[column(self.layout, self.layout.x(r.at))] += 1;
     }
 
-    fn start(&mut self, at: At, _: (u64, u64)) {
-        self.starts[column(self.layout.x(at))] = true;
+    fn start(&mut self, at: At, _: u64) {
+        self.starts[column(self.layout, self.layout.x(at))] = true;
     }
 }
 
-/// Columns as bars from a base line, up to `height` for a value of 1; down
+/// Columns from the left as bars from a base line, up to `height` for a value of 1; down
 /// from it if the height is negative. A value above 0 is at least half a pixel.
-pub fn bars(values: impl Iterator<Item = f64>, base: f64, height: f64) -> String {
+pub fn bars(values: impl Iterator<Item = f64>, left: f64, base: f64, height: f64) -> String {
     let mut path = String::new();
     // The height of the bar that is being drawn, in half pixels.
     let mut level = 0;
@@ -167,7 +170,7 @@ pub fn bars(values: impl Iterator<Item = f64>, base: f64, height: f64) -> String
         if next == level {
             continue;
         }
-        let (x, y) = (LEFT + c as f64, base - height.signum() * next as f64 / 2.0);
+        let (x, y) = (left + c as f64, base - height.signum() * next as f64 / 2.0);
         let _ = match (level, next) {
             (0, _) => write!(path, "M{} {}V{}", C(x), C(base), C(y)),
             (_, 0) => write!(path, "H{}V{}z", C(x), C(base)),
@@ -176,13 +179,13 @@ pub fn bars(values: impl Iterator<Item = f64>, base: f64, height: f64) -> String
         level = next;
     }
     if level > 0 {
-        let _ = write!(path, "H{}V{}z", C(LEFT + end as f64), C(base));
+        let _ = write!(path, "H{}V{}z", C(left + end as f64), C(base));
     }
     path
 }
 
 /// A line from the least to the greatest lag in each column.
-pub fn lag_lines(columns: &Columns, panel: &Panel) -> String {
+pub fn lag_lines(columns: &Columns, panel: &Panel, left: f64) -> String {
     let mut path = String::new();
     for (c, &(least, most)) in columns.lags.iter().enumerate() {
         if least <= most {
@@ -192,7 +195,7 @@ pub fn lag_lines(columns: &Columns, panel: &Panel) -> String {
             let _ = write!(
                 path,
                 "M{} {}V{}",
-                C(LEFT + c as f64 + 0.5),
+                C(left + c as f64 + 0.5),
                 C(top - more),
                 C(bottom + more)
             );
@@ -202,14 +205,14 @@ pub fn lag_lines(columns: &Columns, panel: &Panel) -> String {
 }
 
 /// The bound over the columns.
-pub fn bound_line(columns: &Columns, panel: &Panel) -> String {
+pub fn bound_line(columns: &Columns, panel: &Panel, left: f64) -> String {
     let mut path = String::new();
     let mut level = 0.0;
     for (c, &bound) in columns.bound.iter().enumerate() {
         if bound == level {
             continue;
         }
-        let x = C(LEFT + c as f64);
+        let x = C(left + c as f64);
         if level > 0.0 {
             let _ = write!(path, "H{x}");
         }
@@ -219,7 +222,7 @@ pub fn bound_line(columns: &Columns, panel: &Panel) -> String {
         level = bound;
     }
     if level > 0.0 {
-        let _ = write!(path, "H{}", C(LEFT + COLUMNS as f64));
+        let _ = write!(path, "H{}", C(left + columns.bound.len() as f64));
     }
     path
 }

@@ -2,18 +2,22 @@
 
 use std::fs;
 
-use journal::cases::{play, renewed, table, Rule, Server, CASES, LENGTH, NAMES, RESERVATIONS};
-use journal::progress::Progress;
-use journal::text;
+use journal::engine::Proved;
 use model::replay::replay;
+
+use crate::broken::RefillOnWake;
+use crate::controller::{play, Server, LENGTH, NAMES, RESERVATIONS};
+use crate::files::{broken_picture, files, CASES};
+use crate::table::table;
+use crate::{answer::answer as asked, encode};
 
 /// 2f(1000 − f)m + fP for readout and the default settings.
 const BOUND: i64 = 60_000_000;
 
 #[test]
 fn readout_keeps_its_share_whatever_the_server_does() {
-    let steady = play(Server::Steady, Rule::Right, LENGTH);
-    let jittery = play(Server::Jittery, Rule::Right, LENGTH);
+    let steady = play::<Proved>(Server::Steady, LENGTH);
+    let jittery = play::<Proved>(Server::Jittery, LENGTH);
     for outcome in [&steady, &jittery] {
         assert!(outcome.shares[0] >= RESERVATIONS[0]);
         assert!(outcome.largest[0] <= BOUND);
@@ -29,8 +33,8 @@ fn readout_keeps_its_share_whatever_the_server_does() {
 
 #[test]
 fn refill_on_wake_would_starve_readout() {
-    let right = play(Server::Jittery, Rule::Right, LENGTH);
-    let broken = play(Server::Jittery, Rule::RefillOnWake, LENGTH);
+    let right = play::<Proved>(Server::Jittery, LENGTH);
+    let broken = play::<RefillOnWake>(Server::Jittery, LENGTH);
     assert!(broken.shares[0] < RESERVATIONS[0] / 2);
     assert!(broken.shares[0] < right.shares[0] / 3);
     assert!(broken.shares[3] > 5 * RESERVATIONS[3]);
@@ -48,11 +52,24 @@ fn answer(line: &str) -> u32 {
 #[test]
 fn replay_accepts_every_record_of_the_cases() {
     for case in CASES {
-        let outcome = play(case.server, Rule::Right, LENGTH);
+        let outcome = play::<Proved>(case.server, LENGTH);
         let replayed = String::from_utf8(replay(&outcome.journal())).unwrap();
         assert_eq!(replayed.lines().count(), outcome.records.len());
         assert!(replayed.lines().all(|line| answer(line) == 0));
     }
+}
+
+#[test]
+fn the_picture_of_the_broken_rule_says_so_and_shows_the_lost_share() {
+    let svg = broken_picture();
+    crate::draw::check(&svg);
+    assert!(svg.contains("NOT the scheduler"));
+    assert!(!svg.contains("by the proved library."));
+    // Readout's reservation and its share.
+    assert!(svg.contains(">500 ‰<") && svg.contains(">181 ‰<"));
+    assert!(svg.contains(">319 ms<"));
+    assert_eq!(asked(&["--broken"]), Ok(svg));
+    assert!(asked(&["--draw"]).unwrap_err().starts_with("usage"));
 }
 
 #[test]
@@ -67,14 +84,15 @@ fn the_table_shows_both_rules() {
 /// `cargo run --release -p journal --example cases -- --renew` renews them.
 #[test]
 fn the_shipped_files_are_current() {
-    let files = renewed();
-    assert_eq!(files.len(), 7);
+    let files = files();
+    assert_eq!(files.len(), 10);
     for (path, bytes) in files {
         let shipped = fs::read(&path).unwrap_or_default();
         assert!(shipped == bytes, "{} is out of date", path.display());
         // A text gives the journal of its name.
-        if path.extension().is_some_and(|e| e == "txt") {
-            let journal = text::encode(&bytes, false, &mut Progress::silent()).unwrap();
+        let text = String::from_utf8(bytes.clone()).unwrap_or_default();
+        if text.contains("\nblock 0\n") {
+            let journal = encode(&text);
             let name = path.file_stem().unwrap();
             let blocks = path
                 .with_file_name("../../../examples/journals")

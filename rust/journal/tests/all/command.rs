@@ -5,31 +5,31 @@ use std::io::{Read, Write};
 use std::path::PathBuf;
 use std::process::{Command, Output, Stdio};
 
-use journal::cases::LISTING;
+use crate::files::LISTING;
 
-const JOURNAL: &str = env!("CARGO_BIN_EXE_journal");
+pub const JOURNAL: &str = env!("CARGO_BIN_EXE_journal");
 
 /// A folder that goes with the test.
-struct Folder(PathBuf);
+pub struct Folder(pub PathBuf);
 
 impl Folder {
-    fn new(name: &str) -> Folder {
+    pub fn new(name: &str) -> Folder {
         let folder = std::env::temp_dir().join(format!("journal-{}-{name}", std::process::id()));
         fs::create_dir_all(&folder).unwrap();
         Folder(folder)
     }
 
-    fn file(&self, name: &str, bytes: impl AsRef<[u8]>) -> String {
+    pub fn file(&self, name: &str, bytes: impl AsRef<[u8]>) -> String {
         let path = self.0.join(name);
         fs::write(&path, bytes).unwrap();
         path.to_str().unwrap().to_string()
     }
 
-    fn path(&self, name: &str) -> String {
+    pub fn path(&self, name: &str) -> String {
         self.0.join(name).to_str().unwrap().to_string()
     }
 
-    fn names(&self) -> Vec<String> {
+    pub fn names(&self) -> Vec<String> {
         let entries = fs::read_dir(&self.0).unwrap();
         let mut names: Vec<String> = entries
             .map(|entry| entry.unwrap().file_name().into_string().unwrap())
@@ -45,7 +45,7 @@ impl Drop for Folder {
     }
 }
 
-fn run(arguments: &[&str], input: &[u8]) -> Output {
+pub fn run(arguments: &[&str], input: &[u8]) -> Output {
     let mut child = Command::new(JOURNAL)
         .args(arguments)
         .stdin(Stdio::piped())
@@ -64,11 +64,11 @@ fn run(arguments: &[&str], input: &[u8]) -> Output {
     output
 }
 
-fn code(output: &Output) -> i32 {
+pub fn code(output: &Output) -> i32 {
     output.status.code().unwrap()
 }
 
-fn errors(output: &Output) -> String {
+pub fn errors(output: &Output) -> String {
     String::from_utf8(output.stderr.clone()).unwrap()
 }
 
@@ -172,6 +172,16 @@ fn the_wrong_command_line() {
         &["draw", "--name", "64=readout"],
         &["draw", "--name", "x=readout"],
         &["draw", "-o"],
+        &["draw", "--from", "12 apples"],
+        &["draw", "--to", "1.5"],
+        &["draw", "--thread", "64"],
+        &["run", "--thread", "5"],
+        &["encode", "--names", "x"],
+        &["decode", "--first-block", "-1"],
+        &["decode", "--first-block", "4294967296"],
+        &["stats", "--title", "x"],
+        &["stats", "--refusals"],
+        &["stats", "--csv=yes"],
         &["encode", "--pack=yes"],
         &["encode", "--"],
     ] {
@@ -196,7 +206,8 @@ fn help_and_version() {
     let help = run(&["--help"], b"");
     assert_eq!((code(&help), help.stderr.len()), (0, 0));
     assert!(help.stdout.starts_with(b"Usage: journal COMMAND"));
-    for command in ["encode", "decode", "run", "draw"] {
+    assert!(String::from_utf8_lossy(&help.stdout).contains("the proved library"));
+    for command in ["encode", "decode", "run", "draw", "stats"] {
         for option in ["-h", "--help"] {
             let help = run(&[command, option], b"");
             assert_eq!(code(&help), 0);
@@ -207,10 +218,12 @@ fn help_and_version() {
         }
     }
     let version = run(&["--version"], b"");
-    assert_eq!(
-        (code(&version), version.stdout.as_slice()),
-        (0, &b"journal 0.1.0\n"[..])
+    let told = format!(
+        "journal {}, on the proved library mtr {}\n",
+        env!("CARGO_PKG_VERSION"),
+        journal::engine::version()
     );
+    assert_eq!((code(&version), version.stdout), (0, told.into_bytes()));
 }
 
 #[test]

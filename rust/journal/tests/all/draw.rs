@@ -1,29 +1,28 @@
 //! Pictures are well formed, finite and of bounded size.
 
-use journal::cases::{self, Rule, Server};
-use journal::codec::{self, kind, Record, RECORDS};
-use journal::draw::{draw, Options};
+use journal::codec::{kind, Record};
+use journal::draw::{draw, Drawing, Options};
+use journal::engine::Proved;
+use journal::names::Names;
+use journal::playback::Journal;
 use journal::progress::Progress;
-use journal::text;
 use model::random::{apply, call, journal, record, Rng};
 use model::rule::Scheduler;
 
+use crate::controller::{play, Server};
+use crate::files::LISTING;
+use crate::{encode, ours, pack};
+
+pub fn drawn(journal: &[u8], options: &Options) -> Drawing {
+    draw::<Proved>(Journal::whole(journal), options, &mut Progress::silent()).unwrap()
+}
+
 fn svg(journal: &[u8]) -> String {
-    draw(journal, &Options::default(), &mut Progress::silent()).svg
-}
-
-fn encode(text: &str) -> Vec<u8> {
-    text::encode(text.as_bytes(), false, &mut Progress::silent()).unwrap()
-}
-
-fn pack(records: &[Record]) -> Vec<u8> {
-    let row = (0u32..).zip(records.chunks(RECORDS));
-    row.flat_map(|(n, records)| codec::write(n, records).unwrap())
-        .collect()
+    drawn(journal, &Options::default()).svg
 }
 
 /// Tags are balanced, attributes quoted and known to be finite, text escaped.
-fn check(svg: &str) {
+pub fn check(svg: &str) {
     let mut open: Vec<&str> = Vec::new();
     let mut rest = svg;
     let mut roots = 0;
@@ -110,7 +109,7 @@ fn nothing_and_next_to_nothing() {
 
 #[test]
 fn the_listing_shows_runs_a_wake_refusals_and_lags() {
-    let svg = svg(&encode(cases::LISTING));
+    let svg = svg(&encode(LISTING));
     check(&svg);
     let count = |what: &str| svg.matches(what).count();
     // Two runs of thread 5, one of 7, and 7 again at the end.
@@ -135,7 +134,7 @@ fn damaged_blocks_and_starts_are_shown() {
     let mut journal = encode(&text);
     journal[512 + 20] ^= 1;
     journal.extend_from_slice(&[7; 100]);
-    let drawing = draw(&journal, &Options::default(), &mut Progress::silent());
+    let drawing = drawn(&journal, &Options::default());
     check(&drawing.svg);
     assert_eq!(drawing.tally.blocks, 5);
     assert_eq!(drawing.tally.damaged, 2);
@@ -144,21 +143,98 @@ fn damaged_blocks_and_starts_are_shown() {
     assert!(drawing.svg.contains("block 4 refused: 17, not 512 bytes"));
     assert!(drawing.svg.contains(">start<"));
     assert!(drawing.svg.contains("3 starts · 2 blocks damaged"));
-    // The state after the last damaged block is not known.
-    assert!(drawing.svg.contains(">gone<"));
+    // The state after the last damaged block is not known, the share before is.
+    assert!(drawing.svg.contains(">lost<"));
+    assert!(drawing
+        .svg
+        .contains("share of thread 1, up to a damaged block: 1000 ‰"));
 }
 
 #[test]
 fn titles_and_names_are_escaped_and_cut() {
+    let long = "<readout> of the detector with a name that no lane has room for";
+    let mut names = Names::default();
+    names.give(5, long);
     let options = Options {
         title: Some("a < b & \"c\" \u{0}".into()),
-        names: [(5, "<readout> with a long name".to_string())].into(),
+        names,
+        ..Options::default()
     };
-    let journal = encode(cases::LISTING);
-    let svg = draw(&journal, &options, &mut Progress::silent()).svg;
+    let svg = drawn(&encode(LISTING), &options).svg;
     check(&svg);
     assert!(svg.contains("<title>a &lt; b &amp; &quot;c&quot; \u{fffd}</title>"));
-    assert!(svg.contains(">5 &lt;readout&gt; w…<"));
+    // Cut in the lane and beside the lags, whole where it is pointed at.
+    assert_eq!(svg.matches(">5 &lt;readout&gt; of the detector").count(), 2);
+    assert!(svg.contains("…<title>thread 5 (&lt;readout&gt; of the detector with a name"));
+    assert!(svg.contains(&format!(
+        "thread 5 ({}) has the core from 0 to 32 ms",
+        long.replace('<', "&lt;").replace('>', "&gt;")
+    )));
+    // A plot begins right of every name.
+    let left: f64 = between(&svg, "class=\"panel\" x=\"", "\"").parse().unwrap();
+    assert!(left > 300.0);
+}
+
+/// What stands between two texts.
+fn between<'a>(svg: &'a str, before: &str, after: &str) -> &'a str {
+    let rest = svg.split_once(before).unwrap().1;
+    rest.split_once(after).unwrap().0
+}
+
+#[test]
+fn groups_stand_beside_the_lanes_with_their_ceilings() {
+    let text = "open 1 parent 0 ceiling 600\nopen 3 parent 1 ceiling 200\n\
+                open 2 parent 0 ceiling 300\nopen 9 parent 2 ceiling 10\nclose 9\n\
+                admit 1 group 3 reservation 100\nadmit 2 group 0 reservation 50\n\
+                admit 3 group 1 reservation 300\ndispatch\nreport tick 1000\n";
+    let svg = svg(&encode(text));
+    check(&svg);
+    let order: Vec<usize> = [
+        "group 0 · ceiling 1000 ‰",
+        "group 1 in 0 · ceiling 600 ‰",
+        "group 3 in 1 · ceiling 200 ‰",
+        "group 2 in 0 · ceiling 300 ‰",
+    ]
+    .iter()
+    .map(|text| svg.find(&format!(">{text}<")).expect(text))
+    .collect();
+    assert!(order.is_sorted());
+    assert!(!svg.contains("group 9"));
+    // Lanes group by group: 2, 3, 1.
+    let y = |n: u8| {
+        let label = format!(">thread {n}<title>thread {n}: ");
+        let (before, _) = svg.split_once(&label).unwrap();
+        let y = before.rsplit_once("y=\"").unwrap().1;
+        y.split_once('"').unwrap().0.parse::<f64>().unwrap()
+    };
+    assert!(y(2) < y(3) && y(3) < y(1));
+    assert!(svg.contains("thread 1: reservation 100 ‰ in group 3, 1 dispatch"));
+}
+
+#[test]
+fn threads_that_left_keep_their_shares() {
+    let text = "start thousandth 100 interval 20000\n\
+                admit 1 group 0 reservation 400\nadmit 2 group 0 reservation 400\n\
+                dispatch\nreport tick 3000\ndispatch\nreport exit 1000\n\
+                dispatch\nreport tick 2000\nstart thousandth 100 interval 20000\n";
+    let svg = svg(&encode(text));
+    check(&svg);
+    assert!(svg.contains("share of thread 1, until it left at record 6: 1000 ‰"));
+    assert!(svg.contains("share of thread 2, until the start at record 9: 333 ‰"));
+    assert!(svg.contains(">left<") && svg.contains(">ended<"));
+    assert!(!svg.contains("gone"));
+}
+
+#[test]
+fn refusals_are_told_in_words() {
+    let svg = svg(&encode(
+        "wake 70\nadmit 1 group 5 reservation 9\nwake 3\nremove 3\n",
+    ));
+    check(&svg);
+    let words = "number above 63 or not admitted: 3 times, first at record 0, 0";
+    assert!(svg.contains(&format!(">{words}<")));
+    assert!(svg.contains(">the group is above 15 or not open: at record 1, 0<"));
+    assert!(svg.contains("record 2 refused: 7, number above 63 or not admitted (thread 3)"));
 }
 
 #[test]
@@ -183,7 +259,7 @@ fn random_bytes() {
 
 #[test]
 fn a_long_journal_is_thinned_out() {
-    let outcome = cases::play(Server::Jittery, Rule::Right, 300_000_000);
+    let outcome = play::<Proved>(Server::Jittery, 300_000_000);
     assert!(outcome.records.len() > 100_000);
     let svg = svg(&outcome.journal());
     check(&svg);
@@ -200,7 +276,7 @@ fn the_worst_journal_has_a_bounded_picture() {
     while records.len() < 150_000 {
         let call = call(&mut r, &s);
         apply(&mut s, call);
-        records.push(record(call));
+        records.push(ours(record(call)));
         if r.chance(1, 5000) {
             s = Scheduler::default();
             records.push(Record {

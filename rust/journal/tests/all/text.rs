@@ -1,29 +1,29 @@
 //! Text to blocks and back.
 
 use journal::codec::{self, kind, Record, BLOCK, RECORDS};
+use journal::engine::{Engine, Proved};
+use journal::playback::Journal;
 use journal::progress::Progress;
 use journal::text::{self, Problem, PROBLEMS};
 use model::random::{any_record, journal, Rng};
 use model::replay::replay;
 
+use crate::{encoded as encode, ours};
+
 fn decode(blocks: &[u8]) -> String {
     let mut out = Vec::new();
-    text::decode(blocks, &mut out, &mut Progress::silent()).unwrap();
+    text::decode(Journal::whole(blocks), &mut out, &mut Progress::silent()).unwrap();
     String::from_utf8(out).unwrap()
 }
 
 fn run(blocks: &[u8]) -> String {
     let mut out = Vec::new();
-    text::run(blocks, &mut out, &mut Progress::silent()).unwrap();
+    text::run(Journal::whole(blocks), &mut out, &mut Progress::silent()).unwrap();
     String::from_utf8(out).unwrap()
 }
 
-fn encode(text: &str) -> Result<Vec<u8>, Vec<Problem>> {
-    text::encode(text.as_bytes(), false, &mut Progress::silent())
-}
-
 fn pack(text: &str) -> Result<Vec<u8>, Vec<Problem>> {
-    text::encode(text.as_bytes(), true, &mut Progress::silent())
+    text::encode(text.as_bytes(), 0, true, &mut Progress::silent())
 }
 
 /// Encodes a text that is wrong in one line only.
@@ -172,7 +172,7 @@ fn valid_blocks_round_trip() {
         let rows: Vec<Vec<Record>> = (0..count)
             .map(|_| {
                 let len = r.edgy(0, RECORDS as u64);
-                (0..len).map(|_| any_record(&mut r)).collect()
+                (0..len).map(|_| ours(any_record(&mut r))).collect()
             })
             .collect();
         let rows: Vec<&[Record]> = rows.iter().map(Vec::as_slice).collect();
@@ -210,7 +210,7 @@ fn any_bytes_round_trip() {
 
 #[test]
 fn a_damaged_block_is_shown_with_place_refusal_and_bytes() {
-    let mut journal = blocks(&[&[], &[any_record(&mut Rng::new(4))], &[]]);
+    let mut journal = blocks(&[&[], &[ours(any_record(&mut Rng::new(4)))], &[]]);
     journal[BLOCK + 14] ^= 1;
     journal.truncate(3 * BLOCK - 500);
     let text = decode(&journal);
@@ -398,9 +398,9 @@ fn all_problems_are_named_up_to_a_number() {
 #[test]
 fn blocks_given_for_text_are_recognised() {
     let mut r = Rng::new(5);
-    let records: Vec<Record> = (0..31).map(|_| any_record(&mut r)).collect();
+    let records: Vec<Record> = (0..31).map(|_| ours(any_record(&mut r))).collect();
     let journal = blocks(&[&records]);
-    let problems = text::encode(&journal, false, &mut Progress::silent()).unwrap_err();
+    let problems = text::encode(&journal, 0, false, &mut Progress::silent()).unwrap_err();
     assert_eq!(problems.len(), 1);
     assert!(problems[0].message.starts_with("this is not text"));
 }
@@ -412,7 +412,9 @@ fn run_answers_as_the_replay_does() {
         let journal = journal(&mut r);
         let text = run(&journal);
         let mut printed = String::new();
-        for line in text.lines() {
+        let mut lines = text.lines();
+        assert_eq!(lines.next(), Some(format!("# {}", Proved::SAYS).as_str()));
+        for line in lines {
             let Some((_, comment)) = line.split_once('#') else {
                 continue;
             };
@@ -421,7 +423,7 @@ fn run_answers_as_the_replay_does() {
             printed.push_str(&words.join(" "));
             printed.push('\n');
         }
-        assert_eq!(printed.as_bytes(), replay(&journal));
+        assert!(printed.as_bytes() == replay(&journal), "{text}");
     }
 }
 
@@ -429,9 +431,9 @@ fn run_answers_as_the_replay_does() {
 fn run_says_why() {
     let text = run(&encode("dispatch\nwake 3\nreport tick 0\n").unwrap());
     let lines: Vec<&str> = text.lines().collect();
-    assert!(lines[1].ends_with("# 0 0 64 0 0 idle"));
-    assert!(lines[2].ends_with("# 1 7 0 0 0 number above 63 or not admitted"));
-    assert!(lines[3].ends_with("# 2 11 0 0 0 nothing is running"));
+    assert!(lines[2].ends_with("# 0 0 64 0 0 idle"));
+    assert!(lines[3].ends_with("# 1 7 0 0 0 number above 63 or not admitted"));
+    assert!(lines[4].ends_with("# 2 11 0 0 0 nothing is running"));
 }
 
 #[test]
@@ -454,7 +456,7 @@ fn mangled_text_gives_blocks_or_problems() {
                 _ => bytes.truncate(at),
             }
         }
-        match text::encode(&bytes, false, &mut Progress::silent()) {
+        match text::encode(&bytes, 0, false, &mut Progress::silent()) {
             Ok(blocks) => {
                 good += 1;
                 assert_eq!(encode(&decode(&blocks)).unwrap(), blocks);

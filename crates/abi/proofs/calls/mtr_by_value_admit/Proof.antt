@@ -1,4 +1,7 @@
+-- `mtr_by_value_admit` meets its contract: it hands out the numbers of what the call answers.
 use mathlib.Core.Path.{ap, _∙_}
+use Rattle.scheduler.specs.Refusals.{admit}
+use Rattle.scheduler.proofs.threads.Replies.{call-numbers}
 use Rattle.abi.specs.Calls.{replyOut}
 use borrow.Author.Needs.{needs}
 use Rattle.abi.proofs.calls.mtr_by_value_admit.Statement.{statement}
@@ -11,7 +14,10 @@ handed-requires : tie.Need-handed-requires
 handed-requires c κs = search needs
 
 returns : tie.Need-returns
-returns c = c .handed .ensures ∙ ap replyOut (c .before .admit .ensures)
+returns c =
+    let a = c .before .before .args in
+    let done = c .before .admit in
+    c .handed .ensures ∙ ap replyOut (call-numbers (admit (a .number) (a .group) (a .reservation)) (a .state) (done .result) (done .ensures))
 
 pub mtr-by-value-admit-spec : {M : Type 1} → statement M
 mtr-by-value-admit-spec = tie.close (tie.spec admit-requires handed-requires returns)

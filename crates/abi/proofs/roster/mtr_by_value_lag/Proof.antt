@@ -1,9 +1,15 @@
+-- `mtr_by_value_lag` meets its contract: each case of the answer has its numbers.
 use mathlib.Core.Path.{sym, ap, _∙_}
 use borrow.Author.Needs.{needs, sfits-of}
 use mir.Facts.{toZ-ofZ}
-use Rattle.accounts.specs.Figures.{figure, lagLine}
+use lib.IntN.{ℤ}
+use Rattle.abi.specs.declared.roster.LagLine.{LagLine}
+use Rattle.abi.specs.Figures.{lagOut}
 use Rattle.abi.proofs.roster.mtr_by_value_lag.Statement.{statement}
 use Rattle.abi.proofs.roster.mtr_by_value_lag.Tie as tie
+
+abbrev told : ℤ → LagLine
+told v = record { answer = 0; lag = v }
 
 lag-requires : tie.Need-lag-requires
 lag-requires c κs = search needs
@@ -15,12 +21,14 @@ enum-known-k : tie.Need-enum-known-k
 enum-known-k c = search needs
 
 returns : tie.Need-returns
-unfolding lagLine
-returns c = ap (figure 0) (toZ-ofZ (sfits-of (c .known-told .given .0 .1))) ∙ sym (ap lagLine (c .before .v .given .1)) ∙ c .before .before .before .lag .ensures
+unfolding lagOut
+returns c =
+    ap told (toZ-ofZ (sfits-of (c .known-told .given .0 .1)))
+    ∙ ap lagOut (sym (c .before .v .given .1) ∙ c .before .before .before .lag .ensures)
 
 returns-2 : tie.Need-returns-2
-unfolding lagLine
-returns-2 c = sym (ap lagLine (c .before .k .given .1)) ∙ c .before .before .before .lag .ensures
+unfolding lagOut
+returns-2 c = ap lagOut (sym (c .before .k .given .1) ∙ c .before .before .before .lag .ensures)
 
 pub mtr-by-value-lag-spec : {M : Type 1} → statement M
 mtr-by-value-lag-spec = tie.close (tie.spec lag-requires enum-known-v enum-known-k returns returns-2)

@@ -1,13 +1,22 @@
 -- `accounts::figures::lag` meets its contract: a thread that is found is within its bounds, and its lag is the one asked for.
-use mathlib.Core.Path.{sym, _∙_, ap}
-use Rattle.accounts.specs.Figures.{figure, lagLine, lagReply}
-use lib.IntN.{pos}
+use Prim.Native.Nat.{ℕ}
+use mathlib.Core.Path.{_≡_, sym, _∙_, ap}
+use borrow.Author.Needs.{needs}
+use Rattle.scheduler.specs.declared.Thread.{Thread}
+use Rattle.scheduler.specs.declared.Scheduler.{Scheduler}
 use Rattle.scheduler.specs.Accounts.{lagOf}
+use Rattle.accounts.specs.declared.Lag.{Lag}
+use Rattle.accounts.specs.declared.Lag.the-variants.{Value, Refused}
+use Rattle.accounts.specs.declared.figures.Account.the-variants as account
+use Rattle.accounts.specs.Figures.{lagAt}
+use Rattle.accounts.specs.Inner.{accountOf}
 use Rattle.accounts.proofs.Signed.{lag-bits}
 use Rattle.accounts.proofs.Accounts.{found, refused, found-bounded}
-use borrow.Author.Needs.{needs}
 use Rattle.accounts.proofs.figures.lag.Statement.{statement}
 use Rattle.accounts.proofs.figures.lag.Tie as tie
+
+abbrev valued : Scheduler → Thread → Lag
+valued s t = Value (lagOf (s .meter) t)
 
 find-requires : tie.Need-find-requires
 find-requires c κs = search needs
@@ -22,14 +31,25 @@ enum-known-k : tie.Need-enum-known-k
 enum-known-k c = search needs
 
 returns : tie.Need-returns
-unfolding lagLine lagReply
+unfolding lagAt
 returns c =
-    ap (figure 0) (lag-bits _ _ (lag-of-requires (c .before) tt) _ (c .lag-of .ensures))
-    ∙ sym (found (c .before .before .before .before .before .args .s) (c .before .before .before .before .before .args .number) (pos 0) (lagOf (c .before .before .before .before .before .args .s .meter)) (c .before .before .t .given .0 .0) (sym (c .before .before .before .before .find .ensures) ∙ c .before .before .t .given .1))
+    let t = c .before .before .t .given in
+    let f = c .before .before .before .before in
+    let s = f .before .args .s in
+    let n = f .before .args .number in
+    let is : accountOf s n ≡ account.Found (t .0 .0) = sym (f .find .ensures) ∙ t .1 in
+    ap Value (lag-bits (s .meter) (t .0 .0) (lag-of-requires (c .before) tt) _ (c .lag-of .ensures))
+    ∙ sym (found s n (valued s) Refused (t .0 .0) is)
 
 returns-2 : tie.Need-returns-2
-unfolding lagLine lagReply
-returns-2 c = sym (refused (c .before .before .before .before .args .s) (c .before .before .before .before .args .number) (pos 0) (lagOf (c .before .before .before .before .args .s .meter)) (c .before .k .given .0 .0) (sym (c .before .before .before .find .ensures) ∙ c .before .k .given .1))
+unfolding lagAt
+returns-2 c =
+    let k = c .before .k .given in
+    let f = c .before .before .before in
+    let s = f .before .args .s in
+    let n = f .before .args .number in
+    let is : accountOf s n ≡ account.Refused (k .0 .0) = sym (f .find .ensures) ∙ k .1 in
+    sym (refused s n (valued s) Refused (k .0 .0) is)
 
 pub lag-spec : {M : Type 1} → statement M
 lag-spec =

@@ -1,4 +1,4 @@
--- `Scheduler::subtree_total` meets its contract.
+-- `Scheduler::subtree_total` meets its contract: each way out is one case of `totalOf`.
 use mathlib.Core.Path.{_≡_, refl, sym, _∙_}
 use mathlib.Core.Bool.{true}
 use Prim.Native.Nat.{ℕ}
@@ -8,7 +8,6 @@ use Rattle.base.proofs.Bools.{holds}
 use Rattle.scheduler.specs.declared.Scheduler.{Scheduler}
 use Rattle.scheduler.specs.State.{openAt}
 use Rattle.scheduler.specs.Sound.{sound}
-use Rattle.scheduler.specs.Answers.{subtreeOf}
 use Rattle.scheduler.proofs.groups.Tree.{total-unsound, total-closed, total-sum}
 use Rattle.scheduler.proofs.Scheduler.subtree_total.Statement.{statement}
 use Rattle.scheduler.proofs.Scheduler.subtree_total.Tie as tie
@@ -39,7 +38,6 @@ tested-requires : tie.Need-tested-requires
 tested-requires c κs = search needs
 
 returns : tie.Need-returns
-unfolding subtreeOf
 returns c =
     let a = c .before .before .before in
     total-unsound (a .args .self) (a .args .group) (sym (c .before .before .tested .ensures .test) ∙ not-true (c .before .before .tested .result .ok) (c .if1 .taken))
@@ -48,7 +46,6 @@ is-open-requires : tie.Need-is-open-requires
 is-open-requires c κs = search needs
 
 returns-2 : tie.Need-returns-2
-unfolding subtreeOf
 returns-2 c =
     let e = c .before .before .before in
     total-closed (S e) (G e) (ok e) (sym (c .before .is-open .ensures (S e) refl) ∙ not-true (c .before .is-open .result) (c .if2 .taken))
@@ -65,7 +62,6 @@ subtree-requires c κs =
     }
 
 returns-3 : tie.Need-returns-3
-unfolding subtreeOf
 returns-3 c =
     let e = E (c .before .before) in
     total-sum (S e) (G e) (ok e) (opened (c .before .before)) (c .subtree .result) (c .subtree .ensures (S e) refl (e .before .before .tested .ensures .sums (passed e)))

@@ -1,0 +1,84 @@
+//! A broken rule, to show what it comes to: a wake fills the allotment.
+//!
+//! NOT the scheduler. The proved library has no such behaviour, and a proof of
+//! its contracts would fail. The calls are made on the test model, whose state
+//! can be written; after each accepted wake the woken thread's allotment is
+//! made full.
+
+use journal::codec::{answer, kind, Record};
+use journal::engine::{Engine, Reply};
+use model::rule::{self, Scheduler};
+
+/// The test model with a fault: refill on wake.
+#[derive(Clone, Debug, Default)]
+pub struct RefillOnWake {
+    state: Scheduler,
+}
+
+impl RefillOnWake {
+    fn call(&mut self, r: &Record) -> rule::Reply {
+        let s = &mut self.state;
+        let (subject, group, amount) = (r.subject.into(), r.group.into(), r.amount.into());
+        rule::Reply::plain(match r.kind {
+            kind::OPEN => s.open(subject, group, amount),
+            kind::CLOSE => s.close(subject),
+            kind::ADMIT => s.admit(subject, group, amount),
+            kind::REMOVE => s.remove(subject),
+            kind::WAKE => s.wake(subject),
+            kind::DISPATCH => return s.dispatch(),
+            kind::REPORT => s.report(r.reason.into(), r.ticks.into()),
+            kind::START => match Scheduler::start(amount, r.ticks.into()) {
+                Ok(state) => {
+                    *s = state;
+                    answer::ACCEPTED
+                }
+                Err(refusal) => refusal,
+            },
+            _ => answer::FORM,
+        })
+    }
+}
+
+impl Engine for RefillOnWake {
+    const SAYS: &'static str = "NOT the scheduler: answers by a test model with a fault, \
+        a wake that fills the allotment. The proved library does not do this.";
+
+    fn run(&mut self, r: &Record) -> Reply {
+        let reply = self.call(r);
+        if r.kind == kind::WAKE && reply.answer == answer::ACCEPTED {
+            // The fault.
+            let m = self.state.settings.thousandth;
+            let t = &mut self.state.threads[r.subject as usize];
+            t.allotment = u32::from(t.reservation) * m;
+        }
+        Reply {
+            answer: reply.answer,
+            thread: reply.thread,
+            slice: reply.slice,
+            before: reply.before,
+        }
+    }
+
+    fn lag(&self, thread: u8) -> i64 {
+        self.state.lag(thread.into()).unwrap_or(0)
+    }
+
+    fn share(&self, thread: u8) -> Option<u64> {
+        self.state.share(thread.into()).ok()
+    }
+
+    fn place(&self, thread: u8) -> Option<(u64, u8)> {
+        let admitted = self.state.admitted(thread.into());
+        let entry = self.state.threads.get(thread as usize)?;
+        admitted.then_some((entry.reservation.into(), entry.group))
+    }
+
+    fn settings(&self) -> (u64, u64) {
+        let s = &self.state.settings;
+        (s.thousandth.into(), s.interval.into())
+    }
+
+    fn running(&self) -> Option<u8> {
+        (self.state.running < rule::NONE).then_some(self.state.running as u8)
+    }
+}

@@ -1,0 +1,134 @@
+//! The shipped files: journals, their texts, the threads' names, pictures.
+
+use std::fmt::Write as _;
+use std::io::{self, Write as _};
+use std::path::{Path, PathBuf};
+
+use journal::draw::{draw, Options};
+use journal::engine::{Engine, Proved};
+use journal::names::Names;
+use journal::playback::Journal;
+use journal::progress::Progress;
+use journal::text;
+use journal::track::{Mark, View};
+
+use crate::broken::RefillOnWake;
+use crate::controller::{play, Server, EXPORTER, LENGTH, NAMES, RESERVATIONS};
+
+/// A shipped journal.
+#[derive(Clone, Copy, Debug)]
+pub struct Case {
+    /// Name of its files.
+    pub name: &'static str,
+    pub title: &'static str,
+    pub server: Server,
+}
+
+pub const CASES: [Case; 2] = [
+    Case {
+        name: "steady",
+        title: "Readout beside an exporter with a steady server",
+        server: Server::Steady,
+    },
+    Case {
+        name: "exporter",
+        title: "Readout beside an exporter that wakes at every reply",
+        server: Server::Jittery,
+    },
+];
+
+/// Title of the picture of the broken rule.
+pub const BROKEN: &str = "The same exporter by a broken rule: every wake fills the allotment";
+
+/// A worked example of 15 records.
+pub const LISTING: &str = include_str!("../listing.txt");
+
+/// The part of the exporter's journal that a page looks into.
+const ZOOM: &str = "The exporter's longest wait";
+
+fn zoom() -> View {
+    View {
+        from: Some(Mark::Record(150)),
+        to: Some(Mark::Record(190)),
+        threads: vec![0, EXPORTER as u8],
+    }
+}
+
+fn picture<E: Engine>(journal: &[u8], title: &str, view: View) -> String {
+    let mut names = Names::default();
+    for (n, name) in (0u8..).zip(NAMES) {
+        names.give(n, name);
+    }
+    let options = Options {
+        title: Some(title.into()),
+        names,
+        view,
+    };
+    let whole = Journal::whole(journal);
+    match draw::<E>(whole, &options, &mut Progress::silent()) {
+        Ok(drawing) => drawing.svg,
+        // Only a part that is not there is an error.
+        Err(message) => message,
+    }
+}
+
+/// The exporter beside readout by the broken rule, run and drawn by it.
+pub fn broken_picture() -> String {
+    let journal = play::<RefillOnWake>(Server::Jittery, LENGTH).journal();
+    picture::<RefillOnWake>(&journal, BROKEN, View::default())
+}
+
+fn names() -> String {
+    let mut out = String::from("# Threads of the shipped journals steady and exporter.\n");
+    for (n, name) in NAMES.iter().enumerate() {
+        let _ = writeln!(out, "{n} {name}");
+    }
+    out
+}
+
+/// The files with their contents.
+pub fn files() -> Vec<(PathBuf, Vec<u8>)> {
+    let here = Path::new(env!("CARGO_MANIFEST_DIR"));
+    let root = here.join("../..");
+    let journals = root.join("examples/journals");
+    let mut files = vec![
+        (journals.join("names.txt"), names().into()),
+        (root.join("docs/broken.svg"), broken_picture().into()),
+    ];
+    if let Ok(journal) = text::encode(LISTING.as_bytes(), 0, false, &mut Progress::silent()) {
+        files.push((journals.join("listing.blocks"), journal));
+    }
+    for case in CASES {
+        let journal = play::<Proved>(case.server, LENGTH).journal();
+        let mut lines = Vec::new();
+        let _ = writeln!(&mut lines, "# {}.", case.title);
+        for (n, name) in NAMES.iter().enumerate() {
+            let f = RESERVATIONS[n];
+            let _ = writeln!(&mut lines, "# thread {n}: {name}, reservation {f}");
+        }
+        // Writing to a vector does not fail.
+        let whole = Journal::whole(&journal);
+        let _ = text::decode(whole, &mut lines, &mut Progress::silent());
+
+        let name = case.name;
+        let svg = picture::<Proved>(&journal, case.title, View::default());
+        files.push((here.join(format!("examples/{name}.txt")), lines));
+        files.push((root.join(format!("docs/{name}.svg")), svg.into()));
+        if case.server == Server::Jittery {
+            let svg = picture::<Proved>(&journal, ZOOM, zoom());
+            files.push((root.join("docs/zoom.svg"), svg.into()));
+        }
+        files.push((journals.join(format!("{name}.blocks")), journal));
+    }
+    files
+}
+
+/// Writes the files and tells their names.
+pub fn renew() -> io::Result<String> {
+    let mut out = String::new();
+    for (path, bytes) in files() {
+        std::fs::write(&path, bytes)?;
+        let _ = writeln!(out, "renewed {}", path.display());
+    }
+    Ok(out)
+}

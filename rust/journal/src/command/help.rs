@@ -1,0 +1,179 @@
+//! What `--help` and `--version` print.
+
+/// Of every command but the first: the part of a journal.
+const FIRST: &str = "  --first-block N     the first block is number N: the blocks before it are
+                      missing. What was begun in them is not known, so every
+                      record answers 20 and is not run up to an accepted start
+";
+
+/// Of draw and stats: the part to look at.
+const VIEW: &str =
+    "  --from X, --to Y    only the part from X to Y, each a record's number, as 310,
+                      or a processor time since the journal's beginning with
+                      its unit, as 120ms, 1.5s or 2min (us, ms, s, min, h)
+  --thread N          only thread N, with all refusals; may be given for several
+  --names FILE        names of threads: a number and its name a line; '#' begins
+                      a comment
+  --name N=NAME       a name for thread N; may be given for each
+";
+
+const OUTPUT: &str = "  -o, --output FILE   write to FILE, the whole result or nothing
+  -h, --help          print this and stop
+";
+
+pub fn version() -> String {
+    format!(
+        "journal {}, on the proved library mtr {}\n",
+        env!("CARGO_PKG_VERSION"),
+        journal::engine::version()
+    )
+}
+
+pub fn usage() -> String {
+    "\
+Usage: journal COMMAND [OPTION].. [FILE]
+
+Journals of the scheduler, rows of event blocks of 512 bytes, as text, as a
+picture and in figures. A journal holds the calls that a host made and not
+their answers. Answers, shares and lags are computed anew, by the proved library
+of the scheduler and by nothing else.
+
+Commands:
+  encode   text to blocks
+  decode   blocks to text
+  run      blocks to text, with the answer to each record beside it
+  draw     blocks to a picture (SVG)
+  stats    blocks to figures: shares, runs, waits, lags, refusals
+
+FILE is read, or standard input where there is none or it is '-'. The result
+goes to standard output.
+
+Options of every command:
+  -o, --output FILE   write to FILE, the whole result or nothing
+  --first-block N     a part of a journal that begins with block N
+  -h, --help          print the help of the command and stop
+  -V, --version       print the version and stop
+
+Exit status: 0 if the result was written, or whoever reads it had enough; 1 if
+the input was bad or could not be read, or the result could not be written; 2 if
+the command line was wrong. Bad input and a wrong command line give no result at
+all, and standard error says why and where. A file named with -o keeps its old
+contents until the whole result is there, also if the program is killed; what
+such a run leaves behind, .FILE.NUMBER.part, the next one takes away.
+
+'journal COMMAND --help' tells more.
+"
+    .into()
+}
+
+pub fn encode() -> String {
+    format!(
+        "\
+Usage: journal encode [OPTION].. [FILE]
+
+Makes blocks of a text with one record a line:
+
+  start thousandth 100 interval 20000
+  open 2 parent 0 ceiling 300
+  close 2
+  admit 5 group 0 reservation 500
+  remove 5
+  wake 5
+  dispatch
+  report tick 20000      also block, yield and exit, each with the ticks used;
+  report reason 200 5    any other reason by its number
+
+Numbers are decimal: groups, threads and reasons 0 to 255, thousandth, ceiling
+and reservation 0 to 65535, interval and ticks 0 to 4294967295. A record that
+the scheduler refuses is a record all the same.
+
+  block 3                from here on records go into block 3, up to 31 of them;
+                         the number may be left out
+  damaged 4 18           block 4, refused with 18, is made of the bytes of the
+  hex 0000ff..           lines below it
+
+Records outside any 'block' line are packed, 31 to a block. '#' begins a
+comment; empty lines count for nothing.
+
+Options:
+  --pack              pack all records, whatever the 'block' lines say
+  --first-block N     the first block gets number N, as in a part of a journal
+{OUTPUT}
+If lines are wrong, standard error names up to 20 of them with their numbers,
+nothing is written, and the exit status is 1.
+"
+    )
+}
+
+pub fn decode() -> String {
+    format!(
+        "\
+Usage: journal decode [OPTION].. [FILE]
+
+Makes text of blocks, one record a line, in the form that 'journal encode
+--help' describes. Encoding the text gives the same bytes back, whatever they
+are: a block that is refused (17 not 512 bytes, 18 check wrong, 19 not the bytes
+of this block number and well-formed records) becomes a line 'damaged' with its
+place and refusal, and its bytes below it. Standard error says how many there
+are; the exit status is 0, since the text is whole.
+
+Options:
+  --first-block N     the first block is number N: a part of a journal
+{OUTPUT}"
+    )
+}
+
+pub fn run() -> String {
+    format!(
+        "\
+Usage: journal run [OPTION].. [FILE]
+
+As 'journal decode', with a comment at each record: the five numbers that mtrrun
+prints for it (record number, answer, thread, slice, threads before it), and in
+words why it was refused. The answers are computed anew by the proved library;
+a journal does not hold them.
+
+Options:
+{FIRST}{OUTPUT}"
+    )
+}
+
+pub fn draw() -> String {
+    format!(
+        "\
+Usage: journal draw [OPTION].. [FILE]
+
+Makes an SVG picture of a journal: who had the core when, a lane a thread, with
+blocked spans, wakes and refusals; below it the lag of each thread with the most
+that the share guarantee lets it be, and the refusals in words. Where groups were
+opened, the lanes stand group by group with the ceilings. Time is the meter, which
+moves when a report is accepted. From a damaged or missing block to the next
+accepted start nothing is run; the picture shows that as a hatched gap. A journal
+with many records is thinned out: each pixel column shows what part of its time a
+thread had the core or was blocked, and the least and the greatest lag in it. With
+--from and --to a part of it is drawn span by span. All is computed anew from the
+journal's calls by the proved library.
+
+Options:
+  --title TEXT        the picture's title; else the name of FILE
+{VIEW}{FIRST}{OUTPUT}"
+    )
+}
+
+pub fn stats() -> String {
+    format!(
+        "\
+Usage: journal stats [OPTION].. [FILE]
+
+Tells of each thread its share, runs and wakes, its longest run and wait and its
+largest lag with the records that they begin with, and the most that the share
+guarantee lets the lag be; then the refusals by number, in words. All is computed
+anew from the journal's calls by the proved library.
+
+Options:
+  --csv               comma-separated values, a thread a line; times in ticks of
+                      a microsecond, lags and bounds in thousandths of ticks
+  --csv --refusals    comma-separated values, a kind of refusal a line
+{VIEW}{FIRST}{OUTPUT}"
+    )
+}

@@ -1,0 +1,203 @@
+//! A record as a line: every kind with its words and fields.
+
+use std::io::Write;
+
+use crate::codec::{kind, Record};
+
+use super::line::{end, expect, number, shown, Words};
+
+/// A field of a record as text: the word before it, what it is called in a
+/// message, and its place in the record.
+struct Field {
+    word: Option<&'static str>,
+    name: &'static str,
+    of: Of,
+}
+
+#[derive(Clone, Copy)]
+enum Of {
+    Subject,
+    Group,
+    Amount,
+    Ticks,
+}
+
+impl Of {
+    fn most(self) -> u64 {
+        match self {
+            Of::Subject | Of::Group => u8::MAX as u64,
+            Of::Amount => u16::MAX as u64,
+            Of::Ticks => u32::MAX as u64,
+        }
+    }
+
+    fn get(self, r: &Record) -> u64 {
+        match self {
+            Of::Subject => r.subject as u64,
+            Of::Group => r.group as u64,
+            Of::Amount => r.amount as u64,
+            Of::Ticks => r.ticks as u64,
+        }
+    }
+
+    /// The value is at most [`Of::most`].
+    fn set(self, r: &mut Record, value: u64) {
+        match self {
+            Of::Subject => r.subject = value as u8,
+            Of::Group => r.group = value as u8,
+            Of::Amount => r.amount = value as u16,
+            Of::Ticks => r.ticks = value as u32,
+        }
+    }
+}
+
+/// A kind of record as text: its word and its fields in their order.
+struct Form {
+    kind: u8,
+    word: &'static str,
+    fields: &'static [Field],
+}
+
+const fn first(name: &'static str) -> Field {
+    Field {
+        word: None,
+        name,
+        of: Of::Subject,
+    }
+}
+
+const fn named(word: &'static str, of: Of) -> Field {
+    Field {
+        word: Some(word),
+        name: word,
+        of,
+    }
+}
+
+/// Every kind but the report, whose reason is a word of its own.
+static FORMS: [Form; 7] = [
+    Form {
+        kind: kind::START,
+        word: "start",
+        fields: &[
+            named("thousandth", Of::Amount),
+            named("interval", Of::Ticks),
+        ],
+    },
+    Form {
+        kind: kind::OPEN,
+        word: "open",
+        fields: &[
+            first("group"),
+            named("parent", Of::Group),
+            named("ceiling", Of::Amount),
+        ],
+    },
+    Form {
+        kind: kind::CLOSE,
+        word: "close",
+        fields: &[first("group")],
+    },
+    Form {
+        kind: kind::ADMIT,
+        word: "admit",
+        fields: &[
+            first("thread"),
+            named("group", Of::Group),
+            named("reservation", Of::Amount),
+        ],
+    },
+    Form {
+        kind: kind::REMOVE,
+        word: "remove",
+        fields: &[first("thread")],
+    },
+    Form {
+        kind: kind::WAKE,
+        word: "wake",
+        fields: &[first("thread")],
+    },
+    Form {
+        kind: kind::DISPATCH,
+        word: "dispatch",
+        fields: &[],
+    },
+];
+
+const REPORT: &str = "report";
+/// The reasons of a report that have a word, from 0.
+const REASONS: [&str; 4] = ["tick", "block", "yield", "exit"];
+/// Stands before a reason given as a number.
+const REASON: &str = "reason";
+
+/// Appends a record's line, without its end.
+pub fn put_record(out: &mut Vec<u8>, r: &Record) {
+    // Writing to a vector does not fail.
+    let _ = if r.kind == kind::REPORT {
+        match REASONS.get(r.reason as usize) {
+            Some(reason) => write!(out, "{REPORT} {reason} {}", r.ticks),
+            None => write!(out, "{REPORT} {REASON} {} {}", r.reason, r.ticks),
+        }
+    } else if let Some(form) = FORMS.iter().find(|form| form.kind == r.kind) {
+        out.extend_from_slice(form.word.as_bytes());
+        form.fields.iter().try_for_each(|field| match field.word {
+            Some(word) => write!(out, " {word} {}", field.of.get(r)),
+            None => write!(out, " {}", field.of.get(r)),
+        })
+    } else {
+        Ok(())
+    };
+}
+
+fn get_report(words: &mut Words) -> Result<Record, String> {
+    let reason = match words.next() {
+        None => return Err("the line ends before the reason".into()),
+        Some(word) => match REASONS.iter().position(|r| r.as_bytes() == word) {
+            Some(reason) => reason as u8,
+            None if word == REASON.as_bytes() => {
+                number(words.next(), "the reason", u8::MAX as u64)? as u8
+            }
+            None => {
+                return Err(format!(
+                    "{} is no reason: tick, block, yield, exit, or reason and a number",
+                    shown(word)
+                ))
+            }
+        },
+    };
+    Ok(Record {
+        kind: kind::REPORT,
+        reason,
+        ticks: number(words.next(), "the ticks", u32::MAX as u64)? as u32,
+        ..Record::default()
+    })
+}
+
+/// The record of a line that begins with `word`, and none if no record does.
+pub(super) fn get_record(word: &[u8], words: &mut Words) -> Option<Result<Record, String>> {
+    if word == REPORT.as_bytes() {
+        return Some(get_report(words).and_then(|record| end(words).map(|()| record)));
+    }
+    let form = FORMS.iter().find(|form| form.word.as_bytes() == word)?;
+    let mut read = || {
+        let mut record = Record {
+            kind: form.kind,
+            ..Record::default()
+        };
+        for field in form.fields {
+            if let Some(word) = field.word {
+                expect(words, word)?;
+            }
+            let name = match field.word {
+                Some(_) => field.name.to_string(),
+                None => format!("the {}", field.name),
+            };
+            field
+                .of
+                .set(&mut record, number(words.next(), &name, field.of.most())?);
+        }
+        end(words)?;
+        Ok(record)
+    };
+    Some(read())
+}

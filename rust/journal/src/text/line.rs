@@ -1,0 +1,65 @@
+//! The words of a line.
+
+/// A text without the mark of its encoding that some editors begin it with.
+pub(crate) fn without_mark(text: &[u8]) -> &[u8] {
+    text.strip_prefix(b"\xef\xbb\xbf").unwrap_or(text)
+}
+
+/// The words of a line still to be read.
+pub(crate) type Words<'a> =
+    std::iter::Filter<std::slice::Split<'a, u8, fn(&u8) -> bool>, fn(&&[u8]) -> bool>;
+
+pub(crate) fn words_of(line: &[u8]) -> Words<'_> {
+    let line = match line.iter().position(|&b| b == b'#') {
+        Some(comment) => &line[..comment],
+        None => line,
+    };
+    let blank: fn(&u8) -> bool = u8::is_ascii_whitespace;
+    let some: fn(&&[u8]) -> bool = |word| !word.is_empty();
+    line.split(blank).filter(some)
+}
+
+/// A word as it may stand in a message.
+pub(crate) fn shown(word: &[u8]) -> String {
+    let mut text: String = String::from_utf8_lossy(word)
+        .chars()
+        .map(|c| if c.is_control() { '\u{fffd}' } else { c })
+        .take(33)
+        .collect();
+    if text.chars().count() > 32 {
+        text.pop();
+        text.push_str("..");
+    }
+    format!("'{text}'")
+}
+
+pub(crate) fn number(word: Option<&[u8]>, name: &str, most: u64) -> Result<u64, String> {
+    let Some(word) = word else {
+        return Err(format!("the line ends before the number of {name}"));
+    };
+    if !word.iter().all(u8::is_ascii_digit) {
+        return Err(format!("{name}: {} is not a decimal number", shown(word)));
+    }
+    let value = word.iter().try_fold(0u64, |value, digit| {
+        value.checked_mul(10)?.checked_add((digit - b'0') as u64)
+    });
+    match value {
+        Some(value) if value <= most => Ok(value),
+        _ => Err(format!("{name}: {} is above {most}", shown(word))),
+    }
+}
+
+pub(super) fn expect(words: &mut Words, wanted: &str) -> Result<(), String> {
+    match words.next() {
+        Some(word) if word == wanted.as_bytes() => Ok(()),
+        Some(word) => Err(format!("'{wanted}' expected, {} found", shown(word))),
+        None => Err(format!("the line ends where '{wanted}' is expected")),
+    }
+}
+
+pub(super) fn end(words: &mut Words) -> Result<(), String> {
+    match words.next() {
+        None => Ok(()),
+        Some(word) => Err(format!("{} after the end of the line", shown(word))),
+    }
+}

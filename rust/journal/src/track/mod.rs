@@ -1,0 +1,320 @@
+//! A journal as spans of time: what each thread did from when to when, and
+//! its lag meanwhile.
+//!
+//! Time is the meter, summed over all starts of the journal. It moves at
+//! accepted reports only. In a span the lag is a straight line: f per tick
+//! while another thread has the core, f − 1000 while it has it itself, and
+//! level at 0 while it is blocked.
+
+mod sink;
+mod survey;
+mod view;
+
+#[cfg(test)]
+mod tests;
+
+use std::ops::ControlFlow;
+
+use crate::codec::{answer, kind, reason, Record, GROUPS, NONE, THREADS};
+use crate::engine::{bound, Engine, Reply};
+use crate::playback::{play, Journal, Step};
+use crate::progress::Progress;
+
+pub use sink::{At, End, Gap, Life, Moment, Refused, Sink, Span, What};
+pub use survey::{Greatest, Group, Longest, Refusals, Survey, Thread};
+pub use view::{Clip, Mark, View, Window};
+
+#[derive(Clone, Copy)]
+struct Piece {
+    what: What,
+    from: u64,
+    lag: i64,
+    record: u64,
+}
+
+#[derive(Clone, Copy)]
+struct Alive {
+    from: At,
+    reservation: u64,
+    group: u8,
+    settings: (u64, u64),
+    piece: Piece,
+    /// A span not handed out yet: what follows may prolong it.
+    held: Option<Span>,
+}
+
+struct Tracker<'s, S: Sink> {
+    sink: &'s mut S,
+    at: At,
+    alive: [Option<Alive>; THREADS],
+    gap: Option<Gap>,
+    /// The thread that runs.
+    ran: Option<u8>,
+    /// Groups that are open beside group 0.
+    open: [bool; GROUPS],
+}
+
+impl<S: Sink> Tracker<'_, S> {
+    /// Ends what the thread does; what is held then ends here too.
+    fn finish(&mut self, n: usize) {
+        let at = self.at;
+        let Some(alive) = &mut self.alive[n] else {
+            return;
+        };
+        let piece = alive.piece;
+        if piece.from == at.time {
+            if piece.what == What::Run {
+                self.sink.empty_run(n as u8, at, piece.record);
+            }
+            return;
+        }
+        if let Some(span) = alive.held.take() {
+            self.sink.span(&span);
+        }
+        let f = alive.reservation as i64;
+        alive.held = Some(Span {
+            thread: n as u8,
+            what: piece.what,
+            from: At {
+                time: piece.from,
+                ..at
+            },
+            to: at.time,
+            lag: piece.lag,
+            slope: match piece.what {
+                What::Run => f - 1000,
+                What::Wait => f,
+                What::Blocked => 0,
+            },
+            record: piece.record,
+        });
+    }
+
+    /// From here on the thread does this.
+    fn becomes(&mut self, n: usize, what: What, lag: i64, record: u64) {
+        self.finish(n);
+        let now = self.at.time;
+        let Some(alive) = &mut self.alive[n] else {
+            return;
+        };
+        alive.piece = Piece {
+            what,
+            from: now,
+            lag,
+            record,
+        };
+        match alive.held {
+            Some(span) if span.what == what && span.to == now && span.last_lag() == lag => {
+                alive.held = None;
+                alive.piece = Piece {
+                    what,
+                    from: span.from.time,
+                    lag: span.lag,
+                    record: span.record,
+                };
+            }
+            _ => {}
+        }
+    }
+
+    /// The thread's time in the list is over; without an end it stays there.
+    fn dies(&mut self, n: usize, end: Option<End>) {
+        self.finish(n);
+        if let Some(alive) = self.alive[n].take() {
+            if let Some(span) = alive.held {
+                self.sink.span(&span);
+            }
+            self.sink.life(&Life {
+                thread: n as u8,
+                from: alive.from,
+                to: self.at.time,
+                reservation: alive.reservation,
+                group: alive.group,
+                settings: alive.settings,
+                bound: bound(alive.reservation, alive.settings),
+                end: end.unwrap_or(End::Stays(alive.piece.what)),
+            });
+        }
+    }
+
+    fn all_die(&mut self, end: Option<End>) {
+        for n in 0..THREADS {
+            self.dies(n, end);
+        }
+    }
+
+    fn all_close(&mut self) {
+        for (group, open) in (0..).zip(&mut self.open) {
+            if std::mem::take(open) {
+                self.sink.group(group, self.at, None);
+            }
+        }
+    }
+
+    fn close_gap(&mut self) {
+        if let Some(gap) = self.gap.take() {
+            self.sink.gap(&gap);
+        }
+    }
+
+    /// The blocks before a part of a journal are missing.
+    fn missing(&mut self, blocks: u64) {
+        self.gap = Some(Gap {
+            at: self.at,
+            first: 0,
+            last: blocks - 1,
+            refusal: None,
+            damaged: 0,
+            skipped: 0,
+        });
+        self.at.gaps += 1;
+    }
+
+    fn damaged(&mut self, place: u64, refusal: u32) {
+        self.sink.block(place, Some(refusal));
+        self.all_die(Some(End::Lost));
+        self.all_close();
+        self.ran = None;
+        match &mut self.gap {
+            Some(gap) => {
+                gap.last = place;
+                gap.damaged += 1;
+            }
+            None => {
+                self.gap = Some(Gap {
+                    at: self.at,
+                    first: place,
+                    last: place,
+                    refusal: Some(refusal),
+                    damaged: 1,
+                    skipped: 0,
+                });
+                self.at.gaps += 1;
+            }
+        }
+    }
+
+    fn record(&mut self, number: u64, r: &Record, reply: Reply, e: &impl Engine) {
+        let before = self.at;
+        match reply.answer {
+            answer::ACCEPTED => {
+                self.accepted(number, r, reply.thread, e);
+                self.ran = e.running();
+            }
+            answer::NOT_STARTED => {
+                if let Some(gap) = &mut self.gap {
+                    gap.skipped += 1;
+                }
+            }
+            refused => {
+                let named = (r.subject < THREADS as u8).then_some(r.subject);
+                self.sink.refusal(&Refused {
+                    at: self.at,
+                    number,
+                    record: r,
+                    answer: refused,
+                    thread: match r.kind {
+                        kind::ADMIT | kind::REMOVE | kind::WAKE => named,
+                        kind::REPORT => self.ran,
+                        _ => None,
+                    },
+                });
+            }
+        }
+        self.sink.record(&Moment {
+            number,
+            before,
+            after: self.at,
+            skipped: reply.answer == answer::NOT_STARTED,
+        });
+    }
+
+    fn accepted(&mut self, number: u64, r: &Record, thread: u32, e: &impl Engine) {
+        let subject = r.subject as usize;
+        match r.kind {
+            kind::START => {
+                self.all_die(Some(End::Restarted(number)));
+                self.all_close();
+                self.close_gap();
+                self.sink.start(self.at, number);
+            }
+            kind::OPEN => {
+                let opened = (r.group, r.amount.into());
+                self.open[subject] = true;
+                self.sink.group(r.subject, self.at, Some(opened));
+            }
+            kind::CLOSE => {
+                self.open[subject] = false;
+                self.sink.group(r.subject, self.at, None);
+            }
+            kind::ADMIT => {
+                let (reservation, group) = e.place(r.subject).unwrap_or((0, 0));
+                self.alive[subject] = Some(Alive {
+                    from: self.at,
+                    reservation,
+                    group,
+                    settings: e.settings(),
+                    piece: Piece {
+                        what: What::Wait,
+                        from: self.at.time,
+                        lag: 0,
+                        record: number,
+                    },
+                    held: None,
+                });
+            }
+            kind::REMOVE => self.dies(subject, Some(End::Left(number))),
+            kind::WAKE => {
+                self.becomes(subject, What::Wait, e.lag(r.subject), number);
+                self.sink.wake(r.subject, self.at, number);
+            }
+            kind::DISPATCH if thread == NONE => self.sink.idle(self.at, number),
+            kind::DISPATCH => {
+                let n = thread as u8;
+                self.becomes(n as usize, What::Run, e.lag(n), number);
+                self.sink.dispatch(n, self.at, number);
+            }
+            kind::REPORT => {
+                self.at.time += r.ticks as u64;
+                let Some(n) = self.ran else { return };
+                match r.reason {
+                    reason::EXIT => self.dies(n as usize, Some(End::Left(number))),
+                    reason::BLOCK => self.becomes(n as usize, What::Blocked, 0, number),
+                    _ => self.becomes(n as usize, What::Wait, e.lag(n), number),
+                }
+            }
+            _ => {}
+        }
+    }
+}
+
+/// Runs a journal and hands out what it shows, each thread's spans in the
+/// order of time.
+pub fn track<E: Engine>(journal: Journal, progress: &mut Progress, sink: &mut impl Sink) {
+    let mut t = Tracker {
+        sink,
+        at: At::default(),
+        alive: [None; THREADS],
+        gap: None,
+        ran: None,
+        open: [false; GROUPS],
+    };
+    if journal.first > 0 {
+        t.missing(journal.first);
+    }
+    play::<E>(journal, progress, |step, engine| {
+        match step {
+            Step::Block { place } => t.sink.block(place, None),
+            Step::Damaged { place, refusal, .. } => t.damaged(place, refusal),
+            Step::Record {
+                number,
+                record,
+                reply,
+            } => t.record(number, &record, reply, engine),
+        }
+        ControlFlow::Continue(())
+    });
+    t.all_die(None);
+    t.close_gap();
+    t.sink.end(t.at, t.ran);
+}

@@ -1,0 +1,140 @@
+//! What a journal shows, and the trait of those who take it.
+
+use crate::codec::Record;
+
+/// A point in time, and how many gaps lie before it.
+#[derive(Clone, Copy, Debug, PartialEq, Eq, PartialOrd, Ord, Default)]
+pub struct At {
+    pub time: u64,
+    pub gaps: u64,
+}
+
+#[derive(Clone, Copy, Debug, PartialEq, Eq)]
+pub enum What {
+    /// Has the core.
+    Run,
+    /// Runnable without the core.
+    Wait,
+    Blocked,
+}
+
+/// A thread does one thing for a time above 0. The core given to the same
+/// thread again without a break is one span.
+#[derive(Clone, Copy, Debug, PartialEq, Eq)]
+pub struct Span {
+    pub thread: u8,
+    pub what: What,
+    pub from: At,
+    pub to: u64,
+    /// Lag at `from`, and its growth per tick.
+    pub lag: i64,
+    pub slope: i64,
+    /// The record it began with.
+    pub record: u64,
+}
+
+impl Span {
+    pub fn end(&self) -> At {
+        At {
+            time: self.to,
+            ..self.from
+        }
+    }
+
+    pub fn length(&self) -> u64 {
+        self.to - self.from.time
+    }
+
+    /// Lag at `to`, before what happens there.
+    pub fn last_lag(&self) -> i64 {
+        self.lag + self.slope * self.length() as i64
+    }
+}
+
+/// How a thread's time in the list ended.
+#[derive(Clone, Copy, Debug, PartialEq, Eq)]
+pub enum End {
+    /// By its exit or by a remove, with the record.
+    Left(u64),
+    /// By a start, with the record.
+    Restarted(u64),
+    /// Not known: a damaged block follows.
+    Lost,
+    /// Not at all: it is admitted at the journal's end and does this there.
+    Stays(What),
+    /// Not in the part that is looked at.
+    Later,
+}
+
+/// From a thread's admission to its end.
+#[derive(Clone, Copy, Debug, PartialEq, Eq)]
+pub struct Life {
+    pub thread: u8,
+    pub from: At,
+    pub to: u64,
+    pub reservation: u64,
+    pub group: u8,
+    /// m and P.
+    pub settings: (u64, u64),
+    /// The most that the share guarantee lets its lag be.
+    pub bound: i64,
+    pub end: End,
+}
+
+/// From a damaged or missing block to the next accepted start, or to the end.
+#[derive(Clone, Copy, Debug, PartialEq, Eq)]
+pub struct Gap {
+    pub at: At,
+    /// Places of its first and its last damaged or missing block.
+    pub first: u64,
+    pub last: u64,
+    /// The first one's refusal; none if the blocks before the part are missing.
+    pub refusal: Option<u32>,
+    pub damaged: u64,
+    /// Records in good blocks that were not run.
+    pub skipped: u64,
+}
+
+/// A record that was refused.
+#[derive(Clone, Copy, Debug)]
+pub struct Refused<'a> {
+    pub at: At,
+    pub number: u64,
+    pub record: &'a Record,
+    pub answer: u32,
+    /// The thread that it names, or that runs when a report is refused.
+    pub thread: Option<u8>,
+}
+
+/// A record's place in time. It may have moved the meter itself.
+#[derive(Clone, Copy, Debug)]
+pub struct Moment {
+    pub number: u64,
+    pub before: At,
+    pub after: At,
+    /// It was not run.
+    pub skipped: bool,
+}
+
+/// Takes what a journal shows. Every call has an empty default.
+pub trait Sink {
+    /// A block, with its refusal if it is damaged.
+    fn block(&mut self, _place: u64, _refusal: Option<u32>) {}
+    fn record(&mut self, _: &Moment) {}
+    fn span(&mut self, _: &Span) {}
+    /// The core was given to a thread.
+    fn dispatch(&mut self, _thread: u8, _at: At, _record: u64) {}
+    /// The core was given and taken back without a tick.
+    fn empty_run(&mut self, _thread: u8, _at: At, _record: u64) {}
+    fn life(&mut self, _: &Life) {}
+    fn wake(&mut self, _thread: u8, _at: At, _record: u64) {}
+    fn idle(&mut self, _at: At, _record: u64) {}
+    fn refusal(&mut self, _: &Refused) {}
+    /// An accepted start.
+    fn start(&mut self, _at: At, _record: u64) {}
+    /// A group was opened, with its parent and ceiling, or closed.
+    fn group(&mut self, _group: u8, _at: At, _opened: Option<(u8, u64)>) {}
+    fn gap(&mut self, _: &Gap) {}
+    /// The journal's end, and the thread that runs there.
+    fn end(&mut self, _at: At, _running: Option<u8>) {}
+}

@@ -1,0 +1,273 @@
+//! What a journal or a part of it holds on the whole. The picture is laid out
+//! by it, and the figures are taken from it.
+
+use std::collections::BTreeMap;
+
+use crate::codec::{GROUPS, THREADS};
+use crate::engine::{bound, Engine};
+use crate::text::Tally;
+use crate::words;
+
+use super::sink::{At, End, Gap, Life, Moment, Refused, Sink, Span, What};
+
+/// The longest span of a kind, where it begins and with which record.
+#[derive(Clone, Copy, Debug, Default, PartialEq, Eq)]
+pub struct Longest {
+    pub ticks: u64,
+    pub at: u64,
+    pub record: u64,
+}
+
+impl Longest {
+    fn take(&mut self, span: &Span) {
+        if span.length() > self.ticks {
+            *self = Longest {
+                ticks: span.length(),
+                at: span.from.time,
+                record: span.record,
+            };
+        }
+    }
+}
+
+/// The largest lag, where it stood, in a span that began with the record, and
+/// the most that it could be.
+#[derive(Clone, Copy, Debug, Default, PartialEq, Eq)]
+pub struct Greatest {
+    pub lag: i64,
+    pub at: u64,
+    pub record: u64,
+    pub bound: i64,
+}
+
+/// A thread number.
+#[derive(Clone, Copy, Debug, Default, PartialEq, Eq)]
+pub struct Thread {
+    pub lives: u64,
+    pub spans: u64,
+    /// Dispatches.
+    pub runs: u64,
+    pub wakes: u64,
+    /// Records that name it, or reports of its runs, that were refused.
+    pub refused: u64,
+    pub ticks: u64,
+    pub longest_run: Longest,
+    pub longest_wait: Longest,
+    pub longest_block: Longest,
+    pub lowest: i64,
+    pub largest: Greatest,
+    /// The largest bound of its lives.
+    pub bound: i64,
+    /// Of its last life: reservation, group, achieved share and end.
+    pub reservation: u64,
+    pub group: u8,
+    pub share: u64,
+    pub end: Option<End>,
+    /// Of the life that has not ended yet.
+    ticks_now: u64,
+    largest_now: Greatest,
+}
+
+/// A group, as it was opened last.
+#[derive(Clone, Copy, Debug, PartialEq, Eq)]
+pub struct Group {
+    pub parent: u8,
+    pub ceiling: u64,
+    pub open: bool,
+}
+
+/// Refusals with the same number and words.
+#[derive(Clone, Copy, Debug, PartialEq, Eq)]
+pub struct Refusals {
+    pub count: u64,
+    /// Number and time of the first.
+    pub record: u64,
+    pub at: u64,
+}
+
+#[derive(Clone, Debug)]
+pub struct Survey {
+    /// Every block of the journal.
+    pub tally: Tally,
+    pub from: At,
+    pub to: At,
+    pub records: u64,
+    /// Numbers of the first and the last record.
+    pub numbers: Option<(u64, u64)>,
+    pub starts: u64,
+    /// m and P of the lives, the default ones if there are none.
+    pub settings: (u64, u64),
+    pub one_setting: bool,
+    pub refusals: BTreeMap<(u32, &'static str), Refusals>,
+    pub skipped: u64,
+    pub idle: u64,
+    pub gaps: Vec<Gap>,
+    pub threads: [Thread; THREADS],
+    pub groups: [Option<Group>; GROUPS],
+    /// The thread that runs at the end.
+    pub running: Option<u8>,
+}
+
+impl Survey {
+    pub fn new<E: Engine>(from: At) -> Survey {
+        Survey {
+            tally: Tally::default(),
+            from,
+            to: from,
+            records: 0,
+            numbers: None,
+            starts: 0,
+            settings: E::default().settings(),
+            one_setting: true,
+            refusals: BTreeMap::new(),
+            skipped: 0,
+            idle: 0,
+            gaps: Vec::new(),
+            threads: [Thread::default(); THREADS],
+            groups: [None; GROUPS],
+            running: None,
+        }
+    }
+
+    /// The numbers of the threads that were admitted, in order.
+    pub fn admitted(&self) -> impl Iterator<Item = u8> + '_ {
+        (0..THREADS as u8).filter(|&n| self.threads[n as usize].lives > 0)
+    }
+
+    /// How much time it covers.
+    pub fn time(&self) -> u64 {
+        self.to.time - self.from.time
+    }
+
+    /// How many records were refused.
+    pub fn refused(&self) -> u64 {
+        self.refusals.values().map(|r| r.count).sum()
+    }
+
+    fn thread(&mut self, n: u8) -> &mut Thread {
+        &mut self.threads[n as usize]
+    }
+}
+
+impl Sink for Survey {
+    fn block(&mut self, place: u64, refusal: Option<u32>) {
+        match refusal {
+            None => self.tally.blocks += 1,
+            Some(refusal) => self.tally.damage(place, refusal),
+        }
+    }
+
+    fn record(&mut self, moment: &Moment) {
+        self.records += 1;
+        let first = self.numbers.map_or(moment.number, |(first, _)| first);
+        self.numbers = Some((first, moment.number));
+    }
+
+    fn span(&mut self, span: &Span) {
+        let t = self.thread(span.thread);
+        t.spans += 1;
+        match span.what {
+            What::Run => {
+                t.ticks += span.length();
+                t.ticks_now += span.length();
+                t.longest_run.take(span);
+            }
+            What::Wait => t.longest_wait.take(span),
+            What::Blocked => t.longest_block.take(span),
+        }
+        for (lag, at) in [(span.lag, span.from.time), (span.last_lag(), span.to)] {
+            t.lowest = t.lowest.min(lag);
+            if lag > t.largest_now.lag {
+                t.largest_now = Greatest {
+                    lag,
+                    at,
+                    record: span.record,
+                    bound: 0,
+                };
+            }
+        }
+    }
+
+    fn dispatch(&mut self, thread: u8, _: At, _: u64) {
+        self.thread(thread).runs += 1;
+    }
+
+    fn empty_run(&mut self, thread: u8, _: At, _: u64) {
+        self.thread(thread).spans += 1;
+    }
+
+    fn life(&mut self, life: &Life) {
+        let earlier = self.admitted().next().is_some();
+        self.one_setting &= !earlier || self.settings == life.settings;
+        self.settings = life.settings;
+        let t = self.thread(life.thread);
+        t.lives += 1;
+        t.bound = t.bound.max(bound(life.reservation, life.settings));
+        t.reservation = life.reservation;
+        t.group = life.group;
+        t.end = Some(life.end);
+        let time = life.to - life.from.time;
+        let ticks = std::mem::take(&mut t.ticks_now);
+        t.share = (1000 * ticks).checked_div(time).unwrap_or(0);
+        let mut largest = std::mem::take(&mut t.largest_now);
+        largest.bound = life.bound;
+        if t.lives == 1 || largest.lag > t.largest.lag {
+            t.largest = largest;
+        }
+    }
+
+    fn wake(&mut self, thread: u8, _: At, _: u64) {
+        self.thread(thread).wakes += 1;
+    }
+
+    fn idle(&mut self, _: At, _: u64) {
+        self.idle += 1;
+    }
+
+    fn refusal(&mut self, r: &Refused) {
+        let words = words::refusal(r.record.kind, r.answer);
+        let like = self.refusals.entry((r.answer, words)).or_insert(Refusals {
+            count: 0,
+            record: r.number,
+            at: r.at.time,
+        });
+        like.count += 1;
+        if let Some(thread) = r.thread {
+            self.thread(thread).refused += 1;
+        }
+    }
+
+    fn start(&mut self, _: At, _: u64) {
+        self.starts += 1;
+    }
+
+    fn group(&mut self, group: u8, at: At, opened: Option<(u8, u64)>) {
+        let before = at < self.from;
+        let Some(entry) = self.groups.get_mut(group as usize) else {
+            return;
+        };
+        *entry = match (opened, *entry) {
+            (Some((parent, ceiling)), _) => Some(Group {
+                parent,
+                ceiling,
+                open: true,
+            }),
+            // One that is closed before the part is of no interest.
+            (None, Some(_)) if before => None,
+            (None, entry) => entry.map(|group| Group {
+                open: false,
+                ..group
+            }),
+        };
+    }
+
+    fn gap(&mut self, gap: &Gap) {
+        self.skipped += gap.skipped;
+        self.gaps.push(*gap);
+    }
+
+    fn end(&mut self, at: At, running: Option<u8>) {
+        self.to = at;
+        self.running = running;
+    }
+}

@@ -1,0 +1,150 @@
+//! The commands of docs/JOURNAL.md and docs/CASES.md are run, and what they
+//! print and write is what stands there.
+//!
+//! A `console` block has lines `$ COMMAND`, a line that ends in `\` going on in
+//! the next, and below each what it prints.
+
+use std::collections::BTreeSet;
+use std::fs;
+use std::path::Path;
+use std::process::Command;
+
+use crate::answer::answer;
+use crate::command::{Folder, JOURNAL};
+use crate::root;
+
+/// Commands that make a reader's shell ready.
+const SETUP: [&str; 3] = [
+    "rt staticlib abi",
+    "cargo build --release -p journal",
+    "PATH=$PWD/target/cargo/release:$PATH",
+];
+const CASES: &str = "cargo run --release -q -p journal --example cases";
+
+/// A command and what stands below it.
+#[derive(Debug)]
+struct Shown {
+    command: String,
+    printed: String,
+}
+
+fn shown(page: &str) -> Vec<Shown> {
+    let text = fs::read_to_string(root().join("docs").join(page)).unwrap();
+    let mut out: Vec<Shown> = Vec::new();
+    for block in text.split("```console\n").skip(1) {
+        let block = block.split("```").next().unwrap();
+        let mut goes_on = false;
+        for line in block.lines() {
+            match (line.strip_prefix("$ "), out.last_mut()) {
+                (Some(command), _) => out.push(Shown {
+                    command: command.to_string(),
+                    printed: String::new(),
+                }),
+                (None, Some(last)) if goes_on => {
+                    last.command.truncate(last.command.len() - 1);
+                    last.command.push_str(line.trim_start());
+                }
+                (None, Some(last)) => {
+                    last.printed.push_str(line);
+                    last.printed.push('\n');
+                }
+                (None, None) => panic!("{page}: {line}"),
+            }
+            goes_on = line.ends_with('\\');
+        }
+    }
+    out
+}
+
+/// Runs a command in a folder and answers what it prints.
+fn printed(command: &str, folder: &Path) -> String {
+    if let Some(rest) = command.strip_prefix(CASES) {
+        // The example's own code, without cargo.
+        let (arguments, file) = match rest.split_once(" > ") {
+            Some((arguments, file)) => (arguments, Some(file)),
+            None => (rest, None),
+        };
+        let words = arguments.split_whitespace().filter(|&word| word != "--");
+        let text = answer(&words.collect::<Vec<_>>()).unwrap();
+        return match file {
+            None => text,
+            Some(file) => {
+                fs::write(folder.join(file), text).unwrap();
+                String::new()
+            }
+        };
+    }
+    let tools = folder.join("tools");
+    let path = std::env::var("PATH").unwrap();
+    let output = Command::new("sh")
+        .args(["-c", command])
+        .current_dir(folder)
+        .env("PATH", format!("{}:{path}", tools.display()))
+        .output()
+        .unwrap();
+    assert!(output.status.success(), "{command}: {output:?}");
+    String::from_utf8(output.stdout).unwrap() + &String::from_utf8(output.stderr).unwrap()
+}
+
+/// A folder as the repository's root is to the commands.
+fn ready(name: &str) -> Folder {
+    let folder = Folder::new(name);
+    for part in ["tools", "docs", "examples/journals"] {
+        fs::create_dir_all(folder.0.join(part)).unwrap();
+    }
+    std::os::unix::fs::symlink(JOURNAL, folder.0.join("tools/journal")).unwrap();
+    for entry in fs::read_dir(root().join("examples/journals")).unwrap() {
+        let entry = entry.unwrap();
+        let to = folder.0.join("examples/journals").join(entry.file_name());
+        fs::copy(entry.path(), to).unwrap();
+    }
+    folder
+}
+
+/// Runs a page's commands. Answers the pictures that they write.
+fn page(name: &str) -> BTreeSet<String> {
+    let folder = ready(name);
+    let mut commands = 0;
+    for Shown {
+        command,
+        printed: below,
+    } in shown(name)
+    {
+        if SETUP.contains(&command.as_str()) {
+            continue;
+        }
+        commands += 1;
+        assert_eq!(printed(&command, &folder.0), below, "{name}: {command}");
+    }
+    assert!(commands > 2, "{name}");
+    let mut pictures = BTreeSet::new();
+    for entry in fs::read_dir(folder.0.join("docs")).unwrap() {
+        let entry = entry.unwrap();
+        let picture = entry.file_name().into_string().unwrap();
+        let shipped = fs::read(root().join("docs").join(&picture)).unwrap_or_default();
+        let same = fs::read(entry.path()).unwrap() == shipped;
+        assert!(same, "docs/{picture} is not what {name} says");
+        pictures.insert(picture);
+    }
+    pictures
+}
+
+/// The pictures that a page shows.
+fn pictures(page: &str) -> BTreeSet<String> {
+    let text = fs::read_to_string(root().join("docs").join(page)).unwrap();
+    let names = text.split(['(', ')', '"']);
+    let pictures = names.filter(|name| name.ends_with(".svg") && !name.contains(' '));
+    pictures.map(str::to_string).collect()
+}
+
+#[test]
+fn the_page_about_journals_shows_what_its_commands_give() {
+    assert_eq!(page("JOURNAL.md"), pictures("JOURNAL.md"));
+}
+
+#[test]
+fn the_page_about_the_cases_shows_what_its_commands_give() {
+    let made = page("CASES.md");
+    assert_eq!(made, pictures("CASES.md"));
+    assert_eq!(made.len(), 3);
+}

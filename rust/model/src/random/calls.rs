@@ -1,0 +1,106 @@
+//! Calls, steered by the state.
+
+use super::states::{admitted, free_in, open_groups, with_status};
+use super::{edge_value, Rng};
+use crate::calls::Call;
+use crate::rule::{Scheduler, BLOCKED, FREE, GROUPS, NONE};
+
+/// One of `of` mostly, else any value.
+fn mostly(r: &mut Rng, of: &[usize], high: u64) -> u64 {
+    if of.is_empty() || r.chance(1, 12) {
+        if r.chance(1, 2) {
+            edge_value(r)
+        } else {
+            r.edgy(0, high)
+        }
+    } else {
+        r.pick(of) as u64
+    }
+}
+
+/// An amount for a group: fitting, one too many, in range or any value.
+fn amount(r: &mut Rng, s: &Scheduler, group: u64) -> u64 {
+    let room = if group < GROUPS as u64 {
+        free_in(s, group as usize)
+    } else {
+        0
+    };
+    match r.below(12) {
+        0 => edge_value(r),
+        1 => r.edgy(0, 1001),
+        2 => room,
+        3 => room + 1,
+        4 => 1,
+        _ => r.range(1, (room / 3).max(1)),
+    }
+}
+
+/// A random call with plausible and bad arguments, steered by the state (of
+/// any bits) so that every answer occurs.
+pub fn call(r: &mut Rng, s: &Scheduler) -> Call {
+    let runs = s.running < NONE;
+    match r.below(20) {
+        0 | 1 => {
+            let parent = mostly(r, &open_groups(s), 16);
+            let shut: Vec<usize> = (0..GROUPS)
+                .filter(|&g| s.groups[g].opened != 1 && g as u64 > parent)
+                .collect();
+            Call::Open {
+                number: mostly(r, &shut, 17),
+                parent,
+                ceiling: amount(r, s, parent),
+            }
+        }
+        2 => Call::Close {
+            number: mostly(r, &open_groups(s), 17),
+        },
+        3..=5 => {
+            let group = mostly(r, &open_groups(s), 17);
+            Call::Admit {
+                number: mostly(r, &with_status(s, FREE), 66),
+                group,
+                reservation: amount(r, s, group),
+            }
+        }
+        6 => Call::Remove {
+            number: if runs && r.chance(1, 6) {
+                s.running as u64
+            } else {
+                mostly(r, &admitted(s), 66)
+            },
+        },
+        7..=9 => Call::Wake {
+            number: if r.chance(1, 6) {
+                mostly(r, &admitted(s), 66)
+            } else {
+                mostly(r, &with_status(s, BLOCKED), 66)
+            },
+        },
+        _ if runs == r.chance(1, 12) => Call::Dispatch,
+        _ => report_call(r, s),
+    }
+}
+
+fn report_call(r: &mut Rng, s: &Scheduler) -> Call {
+    let slice = match s.threads.get(s.running as usize) {
+        Some(t) => t.allotment.min(s.settings.interval) as u64,
+        None => 1000,
+    };
+    Call::Report {
+        reason: match r.below(16) {
+            0 => edge_value(r),
+            1 => 4,
+            2 => 3,
+            3 | 4 => 2,
+            5..=7 => 1,
+            _ => 0,
+        },
+        used: match r.below(12) {
+            0 => edge_value(r),
+            1 => slice + 1,
+            2 => 0,
+            3..=5 => r.edgy(0, slice),
+            _ => slice,
+        },
+    }
+}

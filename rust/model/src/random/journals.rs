@@ -1,0 +1,239 @@
+//! Records and journals, whole or damaged.
+
+use super::states::with_status;
+use super::{call, edge_value, Rng};
+use crate::blocks::{fields, kind, seal, write_block, Record, BLOCK, RECORD, RECORDS};
+use crate::calls::{apply, record, recorded, Call};
+use crate::rule::{Scheduler, BLOCKED, FREE, NONE};
+
+/// Runs a record, a start too, on a state.
+fn follow(s: &mut Scheduler, rec: &Record) {
+    if let Some(call) = recorded(rec) {
+        apply(s, call);
+    } else if let Ok(new) = Scheduler::start(rec.amount as u64, rec.ticks as u64) {
+        *s = new;
+    }
+}
+
+/// A well-formed record of any kind with any values in the used fields.
+pub fn any_record(r: &mut Rng) -> Record {
+    let kind = r.range(1, 8) as u8;
+    let (subject, group) = (edge_value(r) as u8, edge_value(r) as u8);
+    let (amount, ticks) = (edge_value(r) as u16, edge_value(r) as u32);
+    let uses = fields(kind).unwrap_or_default();
+    Record {
+        kind,
+        subject: if uses.subject { subject } else { 0 },
+        group: if uses.group { group } else { 0 },
+        reason: if uses.reason { edge_value(r) as u8 } else { 0 },
+        amount: if uses.amount { amount } else { 0 },
+        ticks: if uses.ticks { ticks } else { 0 },
+    }
+}
+
+fn start_record(r: &mut Rng, extreme: bool) -> Record {
+    let (m, p) = if extreme {
+        (
+            r.pick(&[1, 1, 2, 999, 1000, 1000]),
+            r.pick(&[1, 2, 999_999, 1_000_000, 1_000_000]),
+        )
+    } else {
+        match r.below(4) {
+            0 => (100, 20_000),
+            1 => (r.edgy(0, 1001), r.edgy(0, 1_000_001)),
+            _ => (r.range(1, 1000), r.range(1, 50_000)),
+        }
+    };
+    Record {
+        kind: kind::START,
+        amount: m as u16,
+        ticks: p as u32,
+        ..Record::default()
+    }
+}
+
+/// A call that a sound state mostly accepts.
+fn valid_call(r: &mut Rng, s: &Scheduler) -> Call {
+    for _ in 0..8 {
+        let call = call(r, s);
+        if apply(&mut s.clone(), call).answer == 0 {
+            return call;
+        }
+    }
+    if s.running < NONE {
+        Call::Report { reason: 0, used: 0 }
+    } else {
+        Call::Dispatch
+    }
+}
+
+/// Mostly dispatch, report with block, and bursts of wakes.
+fn storm_call(r: &mut Rng, s: &Scheduler) -> Call {
+    let blocked = with_status(s, BLOCKED);
+    if s.count < 40 && r.chance(1, 3) {
+        let free = with_status(s, FREE);
+        return Call::Admit {
+            number: r.pick(&free) as u64,
+            group: 0,
+            reservation: r.range(1, 25),
+        };
+    }
+    if !blocked.is_empty() && r.chance(blocked.len() as u64, s.count as u64 + 4) {
+        return Call::Wake {
+            number: r.pick(&blocked) as u64,
+        };
+    }
+    let Some(t) = s.threads.get(s.running as usize) else {
+        return Call::Dispatch;
+    };
+    let slice = t.allotment.min(s.settings.interval) as u64;
+    Call::Report {
+        reason: r.pick(&[1, 1, 1, 1, 1, 0, 2]),
+        used: r.edgy(0, slice),
+    }
+}
+
+/// A generated journal: mostly accepted or mostly refused records, extreme
+/// settings, wake storms or any values; whole or with every kind of damage.
+pub fn journal(r: &mut Rng) -> Vec<u8> {
+    let style = r.below(6);
+    let damaged = r.chance(1, 2);
+    let mut s = Scheduler::default();
+    let mut next: Vec<Record> = Vec::new();
+    if r.chance(3, 4) {
+        next.push(start_record(r, style == 2));
+    }
+    let count = r.below(12);
+    // Not full blocks in the middle as well.
+    let ragged = r.chance(1, 4);
+    let mut blocks: Vec<[u8; BLOCK]> = Vec::new();
+    for number in 0..count {
+        let len = if ragged || number + 1 == count {
+            r.edgy(0, 31)
+        } else {
+            31
+        };
+        let mut records = Vec::new();
+        for _ in 0..len {
+            let rec = match next.pop() {
+                Some(rec) => rec,
+                None if r.chance(1, if damaged { 20 } else { 150 }) => start_record(r, style == 2),
+                None => match style {
+                    0..=2 => record(valid_call(r, &s)),
+                    3 => record(storm_call(r, &s)),
+                    4 => record(call(r, &s)),
+                    _ if r.chance(1, 3) => any_record(r),
+                    _ => record(call(r, &s)),
+                },
+            };
+            follow(&mut s, &rec);
+            records.push(rec);
+        }
+        let mut block = [0; BLOCK];
+        write_block(&mut block, number as u32, &records);
+        blocks.push(block);
+    }
+    let mut tail = Vec::new();
+    if damaged {
+        for _ in 0..r.range(1, 3) {
+            damage(r, &mut blocks, &mut tail);
+        }
+    }
+    let mut input = blocks.concat();
+    input.append(&mut tail);
+    input
+}
+
+/// One damage to a row of blocks; `tail` is what follows the last whole one.
+fn damage(r: &mut Rng, blocks: &mut Vec<[u8; BLOCK]>, tail: &mut Vec<u8>) {
+    if blocks.is_empty() {
+        *tail = (0..r.range(1, 511)).map(|_| r.bits() as u8).collect();
+        return;
+    }
+    let i = r.below(blocks.len() as u64) as usize;
+    let j = r.below(blocks.len() as u64) as usize;
+    let place = r.below(512) as usize;
+    match r.below(16) {
+        // Doubled, missing, exchanged.
+        3 => {
+            let copy = blocks[i];
+            blocks.insert(i, copy);
+        }
+        4 => {
+            blocks.remove(i);
+        }
+        5 => blocks.swap(i, j),
+        // Short last block: cut off or added.
+        6 => {
+            if let Some(last) = blocks.pop() {
+                *tail = last[..r.edgy(1, 511) as usize].to_vec();
+            }
+        }
+        7 => *tail = (0..r.edgy(1, 511)).map(|_| r.bits() as u8).collect(),
+        way => damage_block(r, &mut blocks[i], way, place),
+    }
+}
+
+/// One damage within a block.
+fn damage_block(r: &mut Rng, block: &mut [u8; BLOCK], way: u64, place: usize) {
+    let used = block[4].min(RECORDS as u8) as usize;
+    match way {
+        0 => block[place] ^= 1 << r.below(8),
+        1 => block.fill(0),
+        // Wrong number under a right check.
+        2 => {
+            block[r.below(4) as usize] ^= 1 << r.below(8);
+            seal(block);
+        }
+        // 0 and 255 exchanged, which the check does not see.
+        8 => {
+            let of: Vec<usize> = (0..510)
+                .filter(|&k| block[k] == 0 || block[k] == 255)
+                .collect();
+            if !of.is_empty() {
+                let k = r.pick(&of);
+                block[k] ^= 255;
+            }
+        }
+        // A check byte of 255 for 0, or another one.
+        9 => {
+            let k = 510 + r.below(2) as usize;
+            block[k] = if block[k] == 0 { 255 } else { r.bits() as u8 };
+        }
+        // Wrong count under a right check.
+        10 => {
+            block[4] = match r.below(3) {
+                0 => block[4].wrapping_add(1),
+                1 => block[4].wrapping_sub(1),
+                _ => r.edgy(0, 255) as u8,
+            };
+            seal(block);
+        }
+        // A byte set under a right check: any, header, record, past the records.
+        11 => {
+            block[place] = r.bits() as u8;
+            seal(block);
+        }
+        12 => {
+            block[r.range(5, 13) as usize] = r.edgy(0, 255) as u8;
+            seal(block);
+        }
+        13 if used > 0 => {
+            let at = 14 + RECORD * r.below(used as u64) as usize;
+            block[at + r.below(16) as usize] = r.edgy(0, 255) as u8;
+            seal(block);
+        }
+        14 if used < RECORDS => {
+            block[r.range(14 + (RECORD * used) as u64, 509) as usize] = r.edgy(1, 255) as u8;
+            seal(block);
+        }
+        _ => {
+            for byte in block.iter_mut() {
+                *byte = r.bits() as u8;
+            }
+            if r.chance(1, 2) {
+                seal(block);
+            }
+        }
+    }
+}

@@ -1,0 +1,232 @@
+//! The calls on a sound state, with the list as a vector.
+
+use model::calls::Call;
+use model::rule::{Group, Reply, Scheduler, Thread, METER_LIMIT};
+
+/// Reply and next state of a call on a sound state.
+pub fn plainly(before: &Scheduler, call: Call) -> (Reply, Scheduler) {
+    let plain = Plain { before, s: *before };
+    let made = match call {
+        Call::Open {
+            number,
+            parent,
+            ceiling,
+        } => plain.open_group(number, parent, ceiling),
+        Call::Close { number } => plain.close(number),
+        Call::Admit {
+            number,
+            group,
+            reservation,
+        } => plain.admit(number, group, reservation),
+        Call::Remove { number } => plain.remove(number),
+        Call::Wake { number } => plain.wake(number),
+        Call::Dispatch => return plain.dispatch(),
+        Call::Report { reason, used } => plain.report(reason, used),
+    };
+    match made {
+        Ok(after) => (Reply::default(), after),
+        Err(answer) => (Reply::plain(answer), *before),
+    }
+}
+
+/// The state before a call, and the one that is made of it.
+struct Plain<'a> {
+    before: &'a Scheduler,
+    s: Scheduler,
+}
+
+impl Plain<'_> {
+    fn list(&self) -> Vec<u8> {
+        self.before.order[..self.before.count as usize].to_vec()
+    }
+
+    fn admitted(&self, n: u64) -> bool {
+        n <= 63 && self.before.threads[n as usize].status != 0
+    }
+
+    fn open(&self, g: u64) -> bool {
+        g <= 15 && self.before.groups[g as usize].opened == 1
+    }
+
+    /// What the group's threads reserve and its children are given.
+    fn parts(&self, g: u64) -> Vec<u64> {
+        let before = self.before;
+        let threads = (0..64)
+            .filter(|&n| self.admitted(n) && before.threads[n as usize].group as u64 == g)
+            .map(|n| before.threads[n as usize].reservation as u64);
+        let children = (1..16)
+            .filter(|&c| self.open(c) && before.groups[c as usize].parent as u64 == g)
+            .map(|c| before.groups[c as usize].ceiling as u64);
+        threads.chain(children).collect()
+    }
+
+    fn free(&self, g: u64) -> u64 {
+        self.before.groups[g as usize].ceiling as u64 - self.parts(g).iter().sum::<u64>()
+    }
+
+    /// The list without n, then n.
+    fn move_to_rear(&mut self, n: u64) {
+        let mut list = self.list();
+        list.retain(|&x| x as u64 != n);
+        list.push(n as u8);
+        self.s.order[..list.len()].copy_from_slice(&list);
+    }
+
+    fn open_group(mut self, number: u64, parent: u64, ceiling: u64) -> Result<Scheduler, u32> {
+        if !self.open(parent) {
+            return Err(2);
+        }
+        if number > 15 || self.open(number) || number <= parent {
+            return Err(3);
+        }
+        if !(1..=1000).contains(&ceiling) {
+            return Err(4);
+        }
+        if ceiling > self.free(parent) {
+            return Err(5);
+        }
+        self.s.groups[number as usize] = Group {
+            ceiling: ceiling as u16,
+            parent: parent as u8,
+            opened: 1,
+        };
+        Ok(self.s)
+    }
+
+    fn close(mut self, number: u64) -> Result<Scheduler, u32> {
+        if number == 0 || !self.open(number) {
+            return Err(2);
+        }
+        if !self.parts(number).is_empty() {
+            return Err(6);
+        }
+        self.s.groups[number as usize] = Group::CLOSED;
+        Ok(self.s)
+    }
+
+    fn admit(mut self, number: u64, group: u64, reservation: u64) -> Result<Scheduler, u32> {
+        if number > 63 {
+            return Err(7);
+        }
+        if self.admitted(number) {
+            return Err(8);
+        }
+        if !self.open(group) {
+            return Err(2);
+        }
+        if !(1..=1000).contains(&reservation) {
+            return Err(4);
+        }
+        if reservation > self.free(group) {
+            return Err(5);
+        }
+        let s = &mut self.s;
+        s.threads[number as usize] = Thread {
+            admission: s.meter,
+            anchor: s.meter,
+            ticks: 0,
+            since: 0,
+            allotment: (reservation * s.settings.thousandth as u64) as u32,
+            reservation: reservation as u16,
+            group: group as u8,
+            status: 1,
+        };
+        s.order[s.count as usize] = number as u8;
+        s.count += 1;
+        Ok(self.s)
+    }
+
+    fn remove(mut self, number: u64) -> Result<Scheduler, u32> {
+        if !self.admitted(number) {
+            return Err(7);
+        }
+        if self.s.running as u64 == number {
+            return Err(9);
+        }
+        self.move_to_rear(number);
+        self.s.count -= 1;
+        self.s.threads[number as usize] = Thread::UNUSED;
+        Ok(self.s)
+    }
+
+    fn wake(mut self, number: u64) -> Result<Scheduler, u32> {
+        if !self.admitted(number) {
+            return Err(7);
+        }
+        let t = &mut self.s.threads[number as usize];
+        if t.status != 2 {
+            return Err(10);
+        }
+        t.status = 1;
+        t.anchor = self.s.meter;
+        t.since = 0;
+        Ok(self.s)
+    }
+
+    fn dispatch(mut self) -> (Reply, Scheduler) {
+        if self.s.running != 64 {
+            return (Reply::plain(12), self.s);
+        }
+        if self.s.meter >= METER_LIMIT {
+            return (Reply::plain(15), self.s);
+        }
+        let list = self.list();
+        let passed = list
+            .iter()
+            .take_while(|&&n| self.s.threads[n as usize].status == 2)
+            .count();
+        let mut reply = Reply {
+            thread: 64,
+            before: passed as u32,
+            ..Reply::default()
+        };
+        if passed < list.len() {
+            let n = list[passed];
+            reply.thread = n as u32;
+            reply.slice = self.s.threads[n as usize]
+                .allotment
+                .min(self.s.settings.interval);
+            self.s.running = n as u32;
+        }
+        (reply, self.s)
+    }
+
+    fn report(mut self, reason: u64, used: u64) -> Result<Scheduler, u32> {
+        let s = &mut self.s;
+        if s.running == 64 {
+            return Err(11);
+        }
+        if reason > 3 {
+            return Err(14);
+        }
+        let n = s.running as u64;
+        let t = &mut s.threads[n as usize];
+        if used > t.allotment as u64 || used > s.settings.interval as u64 {
+            return Err(13);
+        }
+        s.running = 64;
+        s.meter += used;
+        t.ticks += used;
+        t.since += used;
+        t.allotment -= used as u32;
+        let moved = t.allotment == 0 || reason == 2;
+        if moved {
+            t.allotment = t.reservation as u32 * s.settings.thousandth;
+        }
+        if reason == 1 {
+            t.status = 2;
+        }
+        if reason == 2 {
+            t.anchor = s.meter;
+            t.since = 0;
+        }
+        if moved || reason == 3 {
+            self.move_to_rear(n);
+        }
+        if reason == 3 {
+            self.s.count -= 1;
+            self.s.threads[n as usize] = Thread::UNUSED;
+        }
+        Ok(self.s)
+    }
+}

@@ -1,0 +1,141 @@
+//! Soundness clause by clause.
+
+use model::rule::{Scheduler, METER_LIMIT, METER_MAX};
+
+/// Soundness clause by clause, in wide arithmetic.
+pub fn plainly_sound(s: &Scheduler) -> bool {
+    let (m, p) = (s.settings.thousandth as i128, s.settings.interval as i128);
+    let meter = s.meter as i128;
+    let settings = (1..=1000).contains(&m) && (1..=1_000_000).contains(&p);
+    let meanings = s.threads.iter().all(|t| t.status <= 2)
+        && s.groups.iter().all(|g| g.opened <= 1)
+        && s.running <= 64
+        && s.count <= 64;
+    if !meanings {
+        return false;
+    }
+    let open = |g: usize| g < 16 && s.groups[g].opened == 1;
+    let admitted: Vec<usize> = (0..64).filter(|&n| s.threads[n].status != 0).collect();
+    let root = open(0) && s.groups[0].ceiling == 1000;
+    let tree = (1..16).filter(|&g| open(g)).all(|g| {
+        let parent = s.groups[g].parent as usize;
+        parent < g && open(parent) && (1..=1000).contains(&s.groups[g].ceiling)
+    });
+    let rooms = (0..16).filter(|&g| open(g)).all(|g| {
+        let threads: u64 = admitted
+            .iter()
+            .filter(|&&n| s.threads[n].group as usize == g)
+            .map(|&n| s.threads[n].reservation as u64)
+            .sum();
+        let children: u64 = (1..16)
+            .filter(|&c| open(c) && s.groups[c].parent as usize == g)
+            .map(|c| s.groups[c].ceiling as u64)
+            .sum();
+        threads + children <= s.groups[g].ceiling as u64
+    });
+    let threads = admitted.iter().all(|&n| {
+        let t = &s.threads[n];
+        let (admission, anchor) = (t.admission as i128, t.anchor as i128);
+        open(t.group as usize)
+            && (1..=1000).contains(&t.reservation)
+            && t.allotment >= 1
+            && t.allotment as i128 <= t.reservation as i128 * m
+            && admission <= anchor
+            && anchor <= meter
+            && t.ticks as i128 <= meter - admission
+            && t.since as i128 <= meter - anchor
+    });
+    let mut list: Vec<usize> = s.order[..s.count as usize]
+        .iter()
+        .map(|&n| n as usize)
+        .collect();
+    list.sort();
+    let running = s.running == 64 || s.threads[s.running as usize].status == 1;
+    settings
+        && root
+        && tree
+        && rooms
+        && threads
+        && list == admitted
+        && running
+        && meter <= METER_MAX as i128
+        && (s.running == 64 || meter < METER_LIMIT as i128)
+}
+
+/// The clauses of soundness that fail, each judged by itself. A status or
+/// opened of no meaning counts as in use or not, as `in_use` says.
+pub fn failing(s: &Scheduler, in_use: bool) -> Vec<&'static str> {
+    let mut out = Vec::new();
+    let mut clause = |name: &'static str, holds: bool| {
+        if !holds && !out.contains(&name) {
+            out.push(name);
+        }
+    };
+    let open = |g: usize| g < 16 && (s.groups[g].opened == 1 || in_use && s.groups[g].opened > 1);
+    let admitted: Vec<usize> = (0..64)
+        .filter(|&n| match s.threads[n].status {
+            0 => false,
+            1 | 2 => true,
+            _ => in_use,
+        })
+        .collect();
+    clause("m", (1..=1000).contains(&s.settings.thousandth));
+    clause("P", (1..=1_000_000).contains(&s.settings.interval));
+    clause("status", s.threads.iter().all(|t| t.status <= 2));
+    clause("opened", s.groups.iter().all(|g| g.opened <= 1));
+    clause("running", s.running <= 64);
+    clause("count", s.count <= 64);
+    clause("root open", s.groups[0].opened != 0);
+    clause("root ceiling", s.groups[0].ceiling == 1000);
+    for g in 1..16 {
+        if open(g) {
+            let parent = s.groups[g].parent as usize;
+            // Group 0 has a clause of its own.
+            clause("parent open", parent == 0 || open(parent));
+            clause("parent lower", parent >= 16 || parent < g);
+            clause("ceiling", (1..=1000).contains(&s.groups[g].ceiling));
+        }
+    }
+    for g in (0..16).filter(|&g| open(g)) {
+        let mut taken = 0u64;
+        for &n in &admitted {
+            if s.threads[n].group as usize == g {
+                taken += s.threads[n].reservation as u64;
+            }
+        }
+        for c in (1..16).filter(|&c| open(c)) {
+            if s.groups[c].parent as usize == g {
+                taken += s.groups[c].ceiling as u64;
+            }
+        }
+        clause("room", taken <= s.groups[g].ceiling as u64);
+    }
+    for &n in &admitted {
+        let t = &s.threads[n];
+        clause("reservation", (1..=1000).contains(&t.reservation));
+        clause("thread's group", open(t.group as usize));
+        clause("allotment 1", t.allotment >= 1);
+        let quantum = t.reservation as u64 * s.settings.thousandth as u64;
+        clause("allotment full", t.allotment as u64 <= quantum);
+        clause("admission", t.admission <= t.anchor);
+        clause("anchor", t.anchor <= s.meter);
+        // Growth counts as 0 where the clause above fails.
+        let since = |from: u64| s.meter.saturating_sub(from);
+        clause("ticks", t.ticks <= since(t.admission));
+        clause("since", t.since <= since(t.anchor));
+    }
+    let mut list: Vec<usize> = s.list().iter().map(|&n| n as usize).collect();
+    list.sort();
+    clause("list", list == admitted);
+    clause("meter", s.meter <= METER_MAX);
+    if s.running < 64 {
+        clause("meter while running", s.meter < METER_LIMIT);
+        let runs = s.running as usize;
+        clause("running admitted", admitted.contains(&runs));
+        clause(
+            "running not blocked",
+            !admitted.contains(&runs) || s.threads[runs].status != 2,
+        );
+    }
+    out
+}
