@@ -6,5 +6,5 @@ cd "$(dirname "$0")/../.."
 CARGO_TARGET_DIR=$PWD/target/cargo/bench
 RUSTFLAGS='-C llvm-args=-x86-branches-within-32B-boundaries'
 export CARGO_TARGET_DIR RUSTFLAGS
-cargo build --quiet --offline --release -p bench -p model
-exec "$CARGO_TARGET_DIR/release/bench" "$@"
+cargo build --quiet --offline --profile speed -p bench -p model
+exec "$CARGO_TARGET_DIR/speed/bench" "$@"

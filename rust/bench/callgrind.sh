@@ -4,8 +4,8 @@
 set -eu
 calls=${1:-20}
 cd "$(dirname "$0")/../.."
-cargo build --quiet --offline --release -p bench
-bench=target/cargo/release/bench
+cargo build --quiet --offline --profile speed -p bench
+bench=target/cargo/speed/bench
 work=$(mktemp -d)
 trap 'rm -rf "$work"' EXIT
 

@@ -6,6 +6,7 @@ use Rattle.scheduler.specs.State.{
   admittedAt,
   blockedAt,
   runnableAt,
+  reservedAt,
   reservationAt,
   allotmentAt,
   openAt,
@@ -57,7 +58,7 @@ unfolding within firstOf member distinct without everyOf everyBelow sumBelow fir
 lists = tt
 
 unfoldable pub state : Unit {0}
-unfolding admittedAt blockedAt runnableAt reservationAt allotmentAt openAt listed sliceAt withThread withGroup withList withRun
+unfolding admittedAt blockedAt runnableAt reservedAt reservationAt allotmentAt openAt listed sliceAt withThread withGroup withList withRun
 state = tt
 
 unfoldable pub soundness : Unit {0}

@@ -1,15 +1,15 @@
 -- Soundness as a record of facts: `facts` reads a sound state's tests as facts, and `sound-of` goes back. Then how the list and the
 -- threads read after each change of the state. Proofs about the rule use these facts and not the tests.
-use Prim.Native.Nat.{ℕ, zero, suc, _+_, _-_, _*_, min, _≤_, _<_}
-use mathlib.Core.Path.{_≡_, refl, sym, ap, subst, _∙_}
+use Prim.Native.Nat.{ℕ, _-_, _*_, _≤_, _<_}
+use mathlib.Core.Path.{_≡_, refl, subst}
 use mathlib.Core.List.{List, [], _∷_, _++_, append-assoc}
 use mathlib.Core.Bool.{Bool, true, false, not, cond, _&&_, _||_}
 use native.Mathlib.Omega.{arith}
 use native.Mathlib.Numerals.{add-one}
-use lib.ListN.{length, length-append, length-drop, getD, take, drop, set, List·getD-eq-default}
+use lib.ListN.{length, length-append, length-drop, take, drop, List·getD-eq-default}
 use lib.Seq.{getD-set-same, getD-set-other, take-at, take-suc-set, length-take-le}
 use lib.Dec.{T, ltb, leb, eqb, ltb→lt, leb→le, eqb→eq, lt→ltb, le→leb}
-use borrow.Author.Tests.{eqb-true, eqb-false, ne-eqb, eq-eqb, ltb-false, lt-ltb}
+use borrow.Author.Tests.{eqb-false, ne-eqb, eq-eqb, ltb-false, lt-ltb}
 use Rattle.base.specs.Checks.{within, Check, firstOf}
 use Rattle.base.specs.Lists.{member, distinct, without, everyOf, everyBelow}
 use Rattle.base.proofs.Bools.{by, and-l, and-r, both, is, isn't, holds, clash, implies, implied}
@@ -18,42 +18,32 @@ use Rattle.base.proofs.Sums.{everyBelow-at, everyBelow-of}
 use Rattle.scheduler.specs.declared.Thread.{Thread}
 use Rattle.scheduler.specs.declared.Settings.{Settings}
 use Rattle.scheduler.specs.declared.Scheduler.{Scheduler}
-use Rattle.scheduler.specs.State.{
-  noThread,
-  isAdmitted,
-  threadAt,
-  groupAt,
-  admittedAt,
-  reservedAt,
-  reservationAt,
-  allotmentAt,
-  openAt,
-  quantum,
-  listed,
-  runnableAt,
-  withThread,
-  withList,
-}
-use Rattle.scheduler.specs.Sound.{settingsOk, load, groupOk, groupsOk, threadOk, listOk, runningOk, shapeOk, sound}
+use Rattle.scheduler.specs.State.{noThread, isAdmitted, threadAt, groupAt, admittedAt, reservedAt, reservationAt, allotmentAt, openAt}
+use Rattle.scheduler.specs.State.{listed, runnableAt, withThread, withList}
+use Rattle.scheduler.specs.Sound.{settingsOk, quotaOk, accountOk, load, groupOk, groupsOk, threadOk, listOk, runningOk, shapeOk}
+use Rattle.scheduler.specs.Sound.{sound}
 use Rattle.scheduler.specs.Effects.{join}
 
--- a thread's own numbers
-pub record Fit (t : Thread) (m meter : ℕ) : Type 0 where
+-- a reserved thread's own numbers
+pub record Fit (t : Thread) (m : ℕ) : Type 0 where
   pub positive : 1 ≤ t .reservation
   pub at-most : t .reservation ≤ 1000
   pub some : 1 ≤ t .allotment
   pub bounded : t .allotment ≤ t .reservation * m
+
+-- an admitted thread's account
+pub record Account (t : Thread) (meter : ℕ) : Type 0 where
   pub anchored : t .admission ≤ t .anchor
   pub past : t .anchor ≤ meter
   pub charged : t .ticks ≤ meter - t .admission
   pub since : t .since ≤ meter - t .anchor
 
--- an admitted thread
+-- a reserved thread
 pub record ThreadFacts (s : Scheduler) (n : ℕ) : Type 0 where
   pub small : n < 64
   pub in-list : T (member n (listed s))
   pub in-group : T (openAt s ((threadAt s n) .group))
-  pub fit : Fit (threadAt s n) (s .settings .thousandth) (s .meter)
+  pub fit : Fit (threadAt s n) (s .settings .thousandth)
 
 -- an open group
 pub record GroupFacts (s : Scheduler) (g : ℕ) : Type 0 where
@@ -79,12 +69,24 @@ pub record Facts (s : Scheduler) : Type 0 where
   pub flag : (g : ℕ) → g < 16 → (groupAt s g) .opened ≤ 1
   pub group : (g : ℕ) → g < 16 → T (openAt s g) → GroupFacts s g
   pub status : (n : ℕ) → n < 64 → (threadAt s n) .status ≤ 2
-  pub thread : (n : ℕ) → T (admittedAt s n) → ThreadFacts s n
+  pub small : (n : ℕ) → T (admittedAt s n) → n < 64
+  pub account : (n : ℕ) → T (admittedAt s n) → Account (threadAt s n) (s .meter)
+  pub thread : (n : ℕ) → T (reservedAt s n) → ThreadFacts s n
   pub count64 : s .count ≤ 64
   pub members : T (everyOf (λ n. ltb n 64 && reservedAt s n) (listed s))
   pub once : T (distinct (listed s))
   pub run : (s .running ≡ 64 → ⊥) → RunFacts s
   pub meter : s .meter ≤ 10000001000000
+
+-- A reserved thread is admitted; here an admitted one is reserved, too.
+
+pub reserved-admitted : (s : Scheduler) (n : ℕ) → T (reservedAt s n) → T (admittedAt s n)
+unfolding reservedAt admittedAt
+reserved-admitted s n r = r
+
+pub admitted-reserved : (s : Scheduler) (n : ℕ) → T (admittedAt s n) → T (reservedAt s n)
+unfolding reservedAt admittedAt
+admitted-reserved s n a = a
 
 -- From the tests.
 
@@ -94,33 +96,82 @@ unfolding admittedAt
 admitted-small s e n t =
     by (λ b. ltb n 64 ≡ b → n < 64) (ltb n 64)
     (λ q _. ltb→lt n 64 (holds (ltb n 64) q))
-    (λ q _. absurd (subst (λ (z : Thread). T (isAdmitted z)) (List·getD-eq-default (s .threads) noThread (omega (arith, ltb-false n 64 q, e))) t))
+    (λ q _. absurd (subst (λ (z : Thread). T (isAdmitted z)) (List·getD-eq-default (s .threads) noThread
+    (omega (arith, ltb-false n 64 q, e))) t))
     refl
 
-thread-of : (s : Scheduler) (n : ℕ) → n < 64 → T (threadOk s n) → T (admittedAt s n) → ThreadFacts s n
-unfolding threadOk within reservationAt allotmentAt
-thread-of s n small t a =
+-- a reserved thread that is off the list fails its test
+off-fails : (s : Scheduler) (n : ℕ) → T (reservedAt s n) → member n (listed s) ≡ false → threadOk s n ≡ false
+unfolding threadOk
+off-fails s n r e =
+    rw (is (reservedAt s n) r, e) (fails (leb ((threadAt s n) .status) 2) (not (admittedAt s n) || accountOk (s .meter) (threadAt s n)))
+  where
+    fails : (v p : Bool) → (v && false && p) ≡ false
+    fails true p = refl
+    fails false p = refl
+
+on-list : (s : Scheduler) (n : ℕ) → T (threadOk s n) → T (reservedAt s n) → T (member n (listed s))
+on-list s n t r =
+    by (λ b. member n (listed s) ≡ b → T b) (member n (listed s))
+    (λ _ _. tt)
+    (λ e _. clash (threadOk s n) (is (threadOk s n) t) (off-fails s n r e))
+    refl
+
+-- a thread's test: its status, what is asked of a reserved thread, what of an admitted one
+abbrev placed : Scheduler → ℕ → Bool
+placed s n = member n (listed s) && quotaOk (s .settings .thousandth) (threadAt s n) && openAt s ((threadAt s n) .group)
+
+record Entry (s : Scheduler) (n : ℕ) : Type 0 where
+  status : T (leb ((threadAt s n) .status) 2)
+  held : T (reservedAt s n) → T (placed s n)
+  paid : T (admittedAt s n) → T (accountOk (s .meter) (threadAt s n))
+
+entry-of : (s : Scheduler) (n : ℕ) → T (threadOk s n) → Entry s n
+unfolding threadOk
+entry-of s n t =
+    let v = leb ((threadAt s n) .status) 2 in
+    let h = not (reservedAt s n) || placed s n in
+    let p = not (admittedAt s n) || accountOk (s .meter) (threadAt s n) in
+    let u = and-l (v && h) p t in
+    record {
+      status = and-l v h u;
+      held = implied (reservedAt s n) (placed s n) (and-r v h u);
+      paid = implied (admittedAt s n) (accountOk (s .meter) (threadAt s n)) (and-r (v && h) p t);
+    }
+
+ok-entry : (s : Scheduler) (n : ℕ) → Entry s n → T (threadOk s n)
+unfolding threadOk
+ok-entry s n k =
+    let v = leb ((threadAt s n) .status) 2 in
+    let h = not (reservedAt s n) || placed s n in
+    both (v && h) (not (admittedAt s n) || accountOk (s .meter) (threadAt s n))
+    (both v h (k .status) (implies (reservedAt s n) (placed s n) (k .held)))
+    (implies (admittedAt s n) (accountOk (s .meter) (threadAt s n)) (k .paid))
+
+thread-of : (s : Scheduler) (n : ℕ) → n < 64 → T (threadOk s n) → T (reservedAt s n) → ThreadFacts s n
+unfolding within
+thread-of s n small t r =
     let th = threadAt s n in
-    let t′ = rw (is (admittedAt s n) a) at (and-r (leb (th .status) 2) _ t) in
+    let u = (entry-of s n t) .held r in
     record {
       small = small;
-      in-list = search (and-l, and-r) depth 12;
+      in-list = on-list s n t r;
       in-group = search (and-l, and-r) depth 12;
       fit = record {
         positive = leb→le 1 (th .reservation) (search (and-l, and-r) depth 12);
         at-most = leb→le (th .reservation) 1000 (search (and-l, and-r) depth 12);
         some = leb→le 1 (th .allotment) (search (and-l, and-r) depth 12);
         bounded = leb→le (th .allotment) (th .reservation * s .settings .thousandth) (search (and-l, and-r) depth 12);
-        anchored = leb→le (th .admission) (th .anchor) (search (and-l, and-r) depth 12);
-        past = leb→le (th .anchor) (s .meter) (search (and-l, and-r) depth 12);
-        charged = leb→le (th .ticks) (s .meter - th .admission) (search (and-l, and-r) depth 12);
-        since = leb→le (th .since) (s .meter - th .anchor) (search (and-l, and-r) depth 12);
       };
     }
 
-status-of : (s : Scheduler) (n : ℕ) → T (threadOk s n) → (threadAt s n) .status ≤ 2
-unfolding threadOk
-status-of s n t = leb→le ((threadAt s n) .status) 2 (and-l (leb ((threadAt s n) .status) 2) _ t)
+account-of : (meter : ℕ) (t : Thread) → T (accountOk meter t) → Account t meter
+account-of meter t u = record {
+  anchored = leb→le (t .admission) (t .anchor) (search (and-l, and-r));
+  past = leb→le (t .anchor) meter (search (and-l, and-r));
+  charged = leb→le (t .ticks) (meter - t .admission) (search (and-l, and-r));
+  since = leb→le (t .since) (meter - t .anchor) (search (and-l, and-r));
+}
 
 group-of : (s : Scheduler) (g : ℕ) → T (groupOk s g) → T (openAt s g) → GroupFacts s g
 unfolding groupOk within
@@ -134,10 +185,13 @@ group-of s g t o =
       carries = leb→le (load s g) (r .ceiling) (search (and-l, and-r) depth 12);
     }
   where
-    under : (g ≡ 0 → ⊥) → T (eqb g 0 || (ltb ((groupAt s g) .parent) g && openAt s ((groupAt s g) .parent))) → ((groupAt s g) .parent < g) × T (openAt s ((groupAt s g) .parent))
+    under : (g ≡ 0 → ⊥) → T (eqb g 0 || (ltb ((groupAt s g) .parent) g && openAt s ((groupAt s g) .parent)))
+        → ((groupAt s g) .parent < g) × T (openAt s ((groupAt s g) .parent))
     under ne u =
-        let u′ = rw (ne-eqb g 0 ne) at u in
-        (ltb→lt ((groupAt s g) .parent) g (and-l (ltb ((groupAt s g) .parent) g) (openAt s ((groupAt s g) .parent)) u′), and-r (ltb ((groupAt s g) .parent) g) (openAt s ((groupAt s g) .parent)) u′)
+        let u′ = rw (ne-eqb g 0 ne) at u in (
+          ltb→lt ((groupAt s g) .parent) g (and-l (ltb ((groupAt s g) .parent) g) (openAt s ((groupAt s g) .parent)) u′),
+          and-r (ltb ((groupAt s g) .parent) g) (openAt s ((groupAt s g) .parent)) u′,
+        )
 
 flag-of : (s : Scheduler) (g : ℕ) → T (groupOk s g) → (groupAt s g) .opened ≤ 1
 unfolding groupOk
@@ -182,6 +236,7 @@ facts s t =
     let gs = k .groups in
     let li = k .list in
     let sh = k .shape in
+    let entry : (n : ℕ) → n < 64 → Entry s n = λ n l. entry-of s n (everyBelow-at (threadOk s) 64 (k .threads) n l) in
     let ts : length (s .threads) ≡ 64 = eqb→eq (length (s .threads)) 64 (search (and-l, and-r)) in
     record {
       threads64 = ts;
@@ -192,10 +247,12 @@ facts s t =
       whole = eqb→eq ((groupAt s 0) .ceiling) 1000 (search (and-l, and-r));
       flag = λ g l. flag-of s g (everyBelow-at (groupOk s) 16 (search (and-l, and-r)) g l);
       group = λ g l o. group-of s g (everyBelow-at (groupOk s) 16 (search (and-l, and-r)) g l) o;
-      status = λ n l. status-of s n (everyBelow-at (threadOk s) 64 (k .threads) n l);
-      thread = λ n a.
-          let l = admitted-small s ts n a in
-          thread-of s n l (everyBelow-at (threadOk s) 64 (k .threads) n l) a;
+      status = λ n l. leb→le ((threadAt s n) .status) 2 ((entry n l) .status);
+      small = admitted-small s ts;
+      account = λ n a. account-of (s .meter) (threadAt s n) ((entry n (admitted-small s ts n a)) .paid a);
+      thread = λ n r.
+          let l = admitted-small s ts n (reserved-admitted s n r) in
+          thread-of s n l (everyBelow-at (threadOk s) 64 (k .threads) n l) r;
       count64 = leb→le (s .count) 64 (search (and-l, and-r));
       members = search (and-l, and-r);
       once = search (and-l, and-r);
@@ -205,23 +262,19 @@ facts s t =
 
 -- Back to the tests.
 
-ok-thread : (s : Scheduler) (n : ℕ) → (threadAt s n) .status ≤ 2 → (T (admittedAt s n) → ThreadFacts s n) → T (threadOk s n)
-unfolding threadOk within reservationAt allotmentAt
-ok-thread s n e f = both (leb ((threadAt s n) .status) 2) _ (le→leb ((threadAt s n) .status) 2 e) (implies (admittedAt s n) _ (λ a. go (f a)))
-  where
-    go : ThreadFacts s n
-        → T (member n (listed s)
-        && (leb 1 ((threadAt s n) .reservation) && leb ((threadAt s n) .reservation) 1000)
-        && openAt s ((threadAt s n) .group)
-        && (leb 1 ((threadAt s n) .allotment) && leb ((threadAt s n) .allotment) ((threadAt s n) .reservation * s .settings .thousandth))
-        && leb ((threadAt s n) .admission) ((threadAt s n) .anchor)
-        && leb ((threadAt s n) .anchor) (s .meter)
-        && leb ((threadAt s n) .ticks) (s .meter - (threadAt s n) .admission)
-        && leb ((threadAt s n) .since) (s .meter - (threadAt s n) .anchor))
-    go k =
-        let th = threadAt s n in
-        let q = k .fit in
-        search (both, le→leb) depth 12
+ok-quota : (m : ℕ) (t : Thread) → Fit t m → T (quotaOk m t)
+unfolding within
+ok-quota m t k = search (both, le→leb) depth 12
+
+ok-account : (meter : ℕ) (t : Thread) → Account t meter → T (accountOk meter t)
+ok-account meter t k = search (both, le→leb) depth 12
+
+ok-placed : (s : Scheduler) (n : ℕ) → ThreadFacts s n → T (placed s n)
+ok-placed s n k =
+    let m = member n (listed s) in
+    let q = quotaOk (s .settings .thousandth) (threadAt s n) in
+    both (m && q) (openAt s ((threadAt s n) .group))
+    (both m q (k .in-list) (ok-quota (s .settings .thousandth) (threadAt s n) (k .fit))) (k .in-group)
 
 ok-group : (s : Scheduler) (g : ℕ) → (groupAt s g) .opened ≤ 1 → (T (openAt s g) → GroupFacts s g) → T (groupOk s g)
 unfolding groupOk within
@@ -247,7 +300,8 @@ ok-group s g e f = both (leb ((groupAt s g) .opened) 1) _ (le→leb ((groupAt s 
 ok-run : (s : Scheduler) → ((s .running ≡ 64 → ⊥) → RunFacts s) → T (runningOk s)
 unfolding runningOk
 ok-run s f =
-    by (λ b. eqb (s .running) 64 ≡ b → T (b || (ltb (s .running) 64 && admittedAt s (s .running) && runnableAt s (s .running) && ltb (s .meter) 10000000000000))) (eqb (s .running) 64)
+    by (λ b. eqb (s .running) 64 ≡ b → T (b || (ltb (s .running) 64 && admittedAt s (s .running) && runnableAt s (s .running)
+    && ltb (s .meter) 10000000000000))) (eqb (s .running) 64)
     (λ _ _. tt)
     (λ e _. go (f (eqb-false (s .running) 64 e)))
     refl
@@ -261,9 +315,14 @@ sound-of s k =
     let e1 : T (eqb (length (s .threads)) 64) = holds (eqb (length (s .threads)) 64) (eq-eqb (length (s .threads)) 64 (k .threads64)) in
     let e2 : T (eqb (length (s .groups)) 16) = holds (eqb (length (s .groups)) 16) (eq-eqb (length (s .groups)) 16 (k .groups16)) in
     let e3 : T (eqb (length (s .order)) 64) = holds (eqb (length (s .order)) 64) (eq-eqb (length (s .order)) 64 (k .order64)) in
-    let e4 : T (eqb ((groupAt s 0) .ceiling) 1000) = holds (eqb ((groupAt s 0) .ceiling) 1000) (eq-eqb ((groupAt s 0) .ceiling) 1000 (k .whole)) in
+    let e4 : T (eqb ((groupAt s 0) .ceiling) 1000) =
+    holds (eqb ((groupAt s 0) .ceiling) 1000) (eq-eqb ((groupAt s 0) .ceiling) 1000 (k .whole)) in
     let gs : T (everyBelow (groupOk s) 16) = everyBelow-of (groupOk s) 16 (λ g l. ok-group s g (k .flag g l) (k .group g l)) in
-    let ts : T (everyBelow (threadOk s) 64) = everyBelow-of (threadOk s) 64 (λ n l. ok-thread s n (k .status n l) (k .thread n)) in
+    let ts : T (everyBelow (threadOk s) 64) = everyBelow-of (threadOk s) 64 (λ n l. ok-entry s n (record {
+      status = le→leb ((threadAt s n) .status) 2 (k .status n l);
+      held = λ r. ok-placed s n (k .thread n r);
+      paid = λ a. ok-account (s .meter) (threadAt s n) (k .account n a);
+    })) in
     let ru : T (runningOk s) = ok-run s (k .run) in
     search (both, le→leb) depth 16
 
@@ -274,11 +333,15 @@ unfolding openAt
 open-small s g o = ltb→lt g 16 (and-l (ltb g 16) _ o)
 
 pub in-threads : (s : Scheduler) → Facts s → (n : ℕ) → T (admittedAt s n) → n < length (s .threads)
-in-threads s k n a = omega (arith, k .threads64, (k .thread n a) .small)
+in-threads s k n a = omega (arith, k .threads64, k .small n a)
 
--- a thread in the list is admitted
+-- a thread in the list is reserved, and so admitted
+pub member-reserved : (s : Scheduler) → Facts s → (n : ℕ) → T (member n (listed s)) → T (reservedAt s n)
+member-reserved s k n m =
+    and-r (ltb n 64) (reservedAt s n) (everyOf-at (λ j. ltb j 64 && reservedAt s j) (listed s) (k .members) n m)
+
 pub member-admitted : (s : Scheduler) → Facts s → (n : ℕ) → T (member n (listed s)) → T (admittedAt s n)
-member-admitted s k n m = and-r (ltb n 64) (admittedAt s n) (everyOf-at (λ j. ltb j 64 && reservedAt s j) (listed s) (k .members) n m)
+member-admitted s k n m = reserved-admitted s n (member-reserved s k n m)
 
 -- and one that is not admitted is not in the list
 pub unlisted : (s : Scheduler) → Facts s → (n : ℕ) → admittedAt s n ≡ false → T (not (member n (listed s)))
@@ -288,18 +351,19 @@ unlisted s k n e =
     (λ q _. tt)
     refl
 
-pub below-quantum : (s : Scheduler) → Facts s → (n : ℕ) → T (admittedAt s n) → allotmentAt s n ≤ reservationAt s n * s .settings .thousandth
+pub below-quantum : (s : Scheduler) → Facts s → (n : ℕ) → T (reservedAt s n) → allotmentAt s n ≤ reservationAt s n * s .settings .thousandth
 unfolding allotmentAt reservationAt
 below-quantum s k n a = (k .thread n a) .fit .bounded
 
-pub below-whole : (s : Scheduler) → Facts s → (n : ℕ) → T (admittedAt s n) → reservationAt s n ≤ 1000
+pub below-whole : (s : Scheduler) → Facts s → (n : ℕ) → T (reservedAt s n) → reservationAt s n ≤ 1000
 unfolding reservationAt
 below-whole s k n a = (k .thread n a) .fit .at-most
 
 pub carries : (s : Scheduler) → Facts s → (g : ℕ) → T (openAt s g) → load s g ≤ (groupAt s g) .ceiling
 carries s k g o = (k .group g (open-small s g o) o) .carries
 
-pub settings-facts : (z : Settings) → T (settingsOk z) → (1 ≤ z .thousandth) × (z .thousandth ≤ 1000) × (1 ≤ z .interval) × (z .interval ≤ 1000000)
+pub settings-facts : (z : Settings) → T (settingsOk z)
+    → (1 ≤ z .thousandth) × (z .thousandth ≤ 1000) × (1 ≤ z .interval) × (z .interval ≤ 1000000)
 unfolding settingsOk within
 settings-facts z t = (
   leb→le 1 (z .thousandth) (search (and-l, and-r)),
@@ -339,7 +403,8 @@ pub take-off : (o : List ℕ) (c n : ℕ) → c ≤ length o → T (distinct (ta
 take-off o c n fits once h =
     take-at (without n (take c o)) (n ∷ drop c o) (c - 1) (omega (arith, length-without n (take c o) once h, length-take-le c o fits))
 
-pub length-rear : (o : List ℕ) (c n : ℕ) → c ≤ length o → T (distinct (take c o)) → T (member n (take c o)) → length (without n (take c o) ++ n ∷ drop c o) ≡ length o
+pub length-rear : (o : List ℕ) (c n : ℕ) → c ≤ length o → T (distinct (take c o)) → T (member n (take c o))
+    → length (without n (take c o) ++ n ∷ drop c o) ≡ length o
 length-rear o c n le once h =
     simp (length-append, length-drop) (omega (arith, length-without n (take c o) once h, length-take-le c o le))
 
@@ -348,7 +413,8 @@ unfolding distinct everyOf
 room s k n small out =
     let d : T (distinct (n ∷ listed s)) = rw (isn't (member n (listed s)) out) (k .once) in
     let e : T (everyOf (λ n. ltb n 64) (n ∷ listed s)) =
-    rw (lt-ltb n 64 small) (everyOf-map (λ n. ltb n 64 && reservedAt s n) (λ n. ltb n 64) (listed s) (λ j _ u. and-l (ltb j 64) (reservedAt s j) u) (k .members)) in
+    rw (lt-ltb n 64 small) (everyOf-map (λ n. ltb n 64 && reservedAt s n) (λ n. ltb n 64) (listed s)
+    (λ j _ u. and-l (ltb j 64) (reservedAt s j) u) (k .members)) in
     omega (arith, pigeons 64 (n ∷ listed s) d e, length-listed s k)
 
 pub listed-join : (s : Scheduler) → s .count < length (s .order) → (n : ℕ) → listed (join n s) ≡ listed s ++ n ∷ []

@@ -1,6 +1,6 @@
 -- The share guarantee, RULE 9.6: what a thread that stays runnable is owed over a stretch, and what a second thread may take beside it.
--- Both follow from the induction of Share.Stretch, once with every other thread counted at the rate 1000 − f, once with the second thread alone
--- at the rate of its reservation; the potential of a sound state is at most f × h × m + f × P + h × f × m.
+-- Both follow from the induction of Share.Stretch, once with every other thread counted at the rate 1000 − f, once with the second
+-- thread alone at the rate of its reservation; the potential of a sound state is at most f × h × m + f × P + h × f × m.
 use Prim.Native.Nat.{ℕ, _+_, _-_, _*_, min, _≤_}
 use mathlib.Core.Path.{_≡_, refl, ap, subst}
 use mathlib.Core.List.{List, [], _∷_}
@@ -9,15 +9,16 @@ use native.Mathlib.Omega.{arith}
 use native.Mathlib.Nat.{le-refl, mul-le-mul-left, mul-le-mul-right, min-le-left, min-le-right, sub-le}
 use lib.Dec.{T, eqb}
 use borrow.Author.Tests.{eqb-true, eqb-false, ne-eqb, eq-eqb}
-use Rattle.base.specs.Lists.{member, first}
-use Rattle.base.proofs.Bools.{by, and-l, and-r, is}
+use Rattle.base.specs.Lists.{member}
+use Rattle.base.proofs.Bools.{by, and-l, and-r, both, or-false-r}
 use Rattle.base.proofs.Lists.{sumOf, ahead, before, mask, ahead-sumOf, sumOf-le, sumOf-split, sumOf-once, ahead-none}
 use Rattle.scheduler.specs.declared.Scheduler.{Scheduler}
-use Rattle.scheduler.specs.State.{admittedAt, runnableAt, reservationAt, allotmentAt, listed, sliceAt}
+use Rattle.scheduler.specs.State.{reservedAt, reservationAt, allotmentAt, listed, sliceAt}
 use Rattle.scheduler.specs.Sound.{sound}
 use Rattle.scheduler.specs.Refusals.{Call}
-use Rattle.scheduler.specs.Stretch.{Event, trace, final, accepted, ticksOf, named, ticksIn, allTicks, ticksBy, anyone, throughout, keepsRunnable, keepsAdmitted, Protected, Present, Owed, Second}
-use Rattle.scheduler.proofs.Facts.{Facts, facts, member-admitted, below-quantum, below-whole}
+use Rattle.scheduler.specs.Stretch.{Event, trace, final, accepted, ticksOf, named, ticksIn, allTicks, ticksBy, anyone, throughout}
+use Rattle.scheduler.specs.Stretch.{keepsRunnable, keepsAdmitted, Protected, Present, Owed, Second}
+use Rattle.scheduler.proofs.Facts.{Facts, facts, member-reserved, below-quantum, below-whole}
 use Rattle.scheduler.proofs.Share.Gauge.{gauge}
 use Rattle.scheduler.proofs.Share.Step.{weight, potential, Guarded}
 use Rattle.scheduler.proofs.Share.Keep.{runnable-admitted}
@@ -25,7 +26,8 @@ use Rattle.scheduler.proofs.Tree.{listed-most}
 use Rattle.scheduler.proofs.Share.Stretch.{Reserved, Bound, stretch}
 
 -- ticks of all, in two parts
-ticks-split : (x last : ℕ) (es : List Event) → ticksIn anyone last es ≡ ticksIn (λ n. not (eqb n x)) last es + ticksIn (λ n. eqb n x) last es
+ticks-split : (x last : ℕ) (es : List Event)
+    → ticksIn anyone last es ≡ ticksIn (λ n. not (eqb n x)) last es + ticksIn (λ n. eqb n x) last es
 unfolding ticksIn
 ticks-split x last [] = refl
 ticks-split x last (e ∷ es) = omega (arith, ticks-split x (named last e) es, parts (accepted e) (eqb last x) (ticksOf (e .call)))
@@ -35,25 +37,24 @@ ticks-split x last (e ∷ es) = omega (arith, ticks-split x (named last e) es, p
     parts true false t = omega arith
     parts false b t = refl
 
-throughout-map : (p q : ℕ → Call → Bool) → ((last : ℕ) (c : Call) → T (p last c) → T (q last c)) → (last : ℕ) (es : List Event) → T (throughout p last es) → T (throughout q last es)
+throughout-map : (p q : ℕ → Call → Bool) → ((last : ℕ) (c : Call) → T (p last c) → T (q last c)) → (last : ℕ) (es : List Event)
+    → T (throughout p last es) → T (throughout q last es)
 unfolding throughout
 throughout-map p q f last [] t = tt
 throughout-map p q f last (e ∷ es) t =
     both (not (accepted e) || q last (e .call)) (throughout q (named last e) es)
-    (weaken (not (accepted e)) (p last (e .call)) (q last (e .call)) (f last (e .call)) (and-l (not (accepted e) || p last (e .call)) (throughout p (named last e) es) t))
+    (weaken (not (accepted e)) (p last (e .call)) (q last (e .call)) (f last (e .call))
+    (and-l (not (accepted e) || p last (e .call)) (throughout p (named last e) es) t))
     (throughout-map p q f (named last e) es (and-r (not (accepted e) || p last (e .call)) (throughout p (named last e) es) t))
   where
-    both : (a b : Bool) → T a → T b → T (a && b)
-    both true b s t = t
-    both false b s t = s
-
     weaken : (a b c : Bool) → (T b → T c) → T (a || b) → T (a || c)
     weaken true b c f t = tt
     weaken false b c f t = f t
 
 -- Sums of the first state.
 
-allotments : (s : Scheduler) → Facts s → (sel : ℕ → Bool) (h : ℕ) → sumOf (mask sel (reservationAt s)) (listed s) ≤ h → sumOf (mask sel (allotmentAt s)) (listed s) ≤ h * s .settings .thousandth
+allotments : (s : Scheduler) → Facts s → (sel : ℕ → Bool) (h : ℕ) → sumOf (mask sel (reservationAt s)) (listed s) ≤ h
+    → sumOf (mask sel (allotmentAt s)) (listed s) ≤ h * s .settings .thousandth
 allotments s k sel h sum =
     let a = sumOf-le (s .settings .thousandth) (mask sel (allotmentAt s)) (mask sel (reservationAt s)) (listed s) each in
     let b = mul-le-mul-right (s .settings .thousandth) sum in
@@ -62,45 +63,51 @@ allotments s k sel h sum =
     each : (n : ℕ) → T (member n (listed s)) → mask sel (allotmentAt s) n ≤ mask sel (reservationAt s) n * s .settings .thousandth
     each n u =
         elim (sel n) as (λ b. cond b (allotmentAt s n) 0 ≤ cond b (reservationAt s n) 0 * s .settings .thousandth)
-        [ true ↦ below-quantum s k n (member-admitted s k n u) | false ↦ omega arith ]
+        [ true ↦ below-quantum s k n (member-reserved s k n u) | false ↦ omega arith ]
 
 cond-at-most : (a b : Bool) (n : ℕ) → cond a 0 (cond b n 0) ≤ n
 cond-at-most true b n = omega arith
 cond-at-most false true n = le-refl n
 cond-at-most false false n = omega arith
 
-weight-all : (s : Scheduler) → Facts s → (sel : ℕ → Bool) (x h : ℕ) → sumOf (mask sel (reservationAt s)) (listed s) ≤ h → weight sel x s ≤ h * s .settings .thousandth + s .settings .interval
+weight-all : (s : Scheduler) → Facts s → (sel : ℕ → Bool) (x h : ℕ) → sumOf (mask sel (reservationAt s)) (listed s) ≤ h
+    → weight sel x s ≤ h * s .settings .thousandth + s .settings .interval
 unfolding weight gauge sliceAt
 weight-all s k sel x h sum =
     let r = s .running in
     let c = cond-at-most (eqb r 64 || before r x (listed s)) (sel r) (min (allotmentAt s r) (s .settings .interval)) in
-    omega (arith, allotments s k sel h sum, ahead-sumOf x (mask sel (allotmentAt s)) (listed s), min-le-right (allotmentAt s r) (s .settings .interval))
+    omega (
+      arith,
+      allotments s k sel h sum,
+      ahead-sumOf x (mask sel (allotmentAt s)) (listed s),
+      min-le-right (allotmentAt s r)
+          (s .settings .interval),
+    )
 
 -- one thread is before x, or runs behind it
-weight-one : (s : Scheduler) → Facts s → (x y g : ℕ) → T (admittedAt s y) → reservationAt s y ≡ g → weight (λ n. eqb n y) x s ≤ g * s .settings .thousandth
+weight-one : (s : Scheduler) → Facts s → (x y g : ℕ) → T (reservedAt s y) → reservationAt s y ≡ g
+    → weight (λ n. eqb n y) x s ≤ g * s .settings .thousandth
 unfolding weight gauge sliceAt
-weight-one s k x y g adm is-g =
+weight-one s k x y g own is-g =
     let l = listed s in
     let al = allotmentAt s in
     let p = s .settings .interval in
     let r = s .running in
-    let sum : sumOf (mask (λ n. eqb n y) (reservationAt s)) l ≤ g = subst (λ (z : ℕ). sumOf (mask (λ n. eqb n y) (reservationAt s)) l ≤ z) is-g (sumOf-once y (reservationAt s) l (k .once)) in
+    let sum : sumOf (mask (λ n. eqb n y) (reservationAt s)) l ≤ g =
+    subst (λ (z : ℕ). sumOf (mask (λ n. eqb n y) (reservationAt s)) l ≤ z) is-g (sumOf-once y (reservationAt s) l (k .once)) in
     let a = allotments s k (λ n. eqb n y) g sum in
     let b = ahead-sumOf x (mask (λ n. eqb n y) al) l in
-    let own : al y ≤ g * s .settings .thousandth = subst (λ (z : ℕ). al y ≤ z * s .settings .thousandth) is-g (below-quantum s k y adm) in
-    by (λ d. (eqb r 64 || before r x l) ≡ d → ahead x (mask (λ n. eqb n y) al) l + cond d 0 (cond (eqb r y) (min (al r) p) 0) ≤ g * s .settings .thousandth) (eqb r 64 || before r x l)
+    let most : al y ≤ g * s .settings .thousandth = subst (λ (z : ℕ). al y ≤ z * s .settings .thousandth) is-g (below-quantum s k y own) in
+    by (λ d. (eqb r 64 || before r x l) ≡ d → ahead x (mask (λ n. eqb n y) al) l + cond d 0 (cond (eqb r y) (min (al r) p) 0)
+    ≤ g * s .settings .thousandth) (eqb r 64 || before r x l)
     (λ e _. omega arith)
     (λ e _. by (λ d. ahead x (mask (λ n. eqb n y) al) l + cond d (min (al r) p) 0 ≤ g * s .settings .thousandth) (eqb r y)
     (λ q.
     let z = eqb-true r y q in
-    let none = ahead-none x y al l (subst (λ (j : ℕ). before j x l ≡ false) z (or-false (eqb r 64) (before r x l) e)) in
+    let none = ahead-none x y al l (subst (λ (j : ℕ). before j x l ≡ false) z (or-false-r (eqb r 64) (before r x l) e)) in
     omega (arith, min-le-left (al r) p, ap al z))
     (λ q. omega arith))
     refl
-  where
-    or-false : (a b : Bool) → (a || b) ≡ false → b ≡ false
-    or-false true b e = absurd (subst T e tt)
-    or-false false b e = e
 
 -- the sums of a stretch, put together
 owed-all : (f h m p W O S G d : ℕ) → f + h ≡ 1000 → W ≡ O + S → d ≤ f * m → f * O ≤ f * G + h * d + h * S → f * G ≤ f * (h * m + p)
@@ -112,9 +119,15 @@ owed-one : (f g m O S G d : ℕ) → d ≤ f * m → f * O ≤ f * G + g * d + g
 owed-one f g m O S G d u owed w = omega (arith, mul-le-mul-left g u)
 
 -- the others' reservations
-others : (x f : ℕ) (s : Scheduler) → T (sound s) → Guarded f x s → Reserved f x s → sumOf (mask (λ n. not (eqb n x)) (reservationAt s)) (listed s) ≤ 1000 - f
+others : (x f : ℕ) (s : Scheduler) → T (sound s) → Guarded f x s → Reserved f x s
+    → sumOf (mask (λ n. not (eqb n x)) (reservationAt s)) (listed s) ≤ 1000 - f
 others x f s t k r =
-    omega (arith, listed-most s (facts s t), sumOf-split x (reservationAt s) (listed s) (((facts s t) .thread x (k .admitted)) .in-list), k .reserved)
+    omega (
+      arith,
+      listed-most s (facts s t),
+      sumOf-split x (reservationAt s) (listed s) (((facts s t) .thread x (k .reserved)) .in-list),
+      k .amount,
+    )
 
 -- What x is owed: every other thread counts, at the rate 1000 − f.
 pub owed : (s : Scheduler) → T (sound s) → (cs : List Call) (x : ℕ) → Protected s cs x → Owed s cs x
@@ -128,25 +141,27 @@ owed s t cs x px =
     let es = trace s cs in
     let last = s .running in
     let k = facts s t in
-    let small = below-whole s k x (px .admitted) in
-    let guard : Guarded f x s = record { admitted = px .admitted; runnable = px .runnable; reserved = refl } in
-    let res : Reserved f x s = record { admitted = px .admitted; reserved = refl } in
+    let small = below-whole s k x (px .reserved) in
+    let guard : Guarded f x s = record { reserved = px .reserved; runnable = px .runnable; amount = refl } in
+    let res : Reserved f x s = record { reserved = px .reserved; amount = refl } in
     let stays : T (throughout (keepsAdmitted x) last es) =
     throughout-map (keepsRunnable x) (keepsAdmitted x) (runnable-admitted x) last es (px .keeps) in
     let sums : f * ticksIn sel last es + potential f h sel x (final s cs) ≤ potential f h sel x s + h * ticksIn (λ n. eqb n x) last es =
     stretch f f h sel x x (ap not (eq-eqb x x refl)) (others x f) cs s last (λ _. refl) guard res (px .keeps) stays in
     let w = mul-le-mul-left f (weight-all s k sel x h (others x f s t guard res)) in
-    owed-all f h m p (ticksIn anyone last es) (ticksIn sel last es) (ticksIn (λ n. eqb n x) last es) (weight sel x s)
-    (f * m - allotmentAt s x) (omega arith) (ticks-split x last es) (sub-le (f * m) (allotmentAt s x)) (omega (arith, sums)) w
+    let all = owed-all f h m p (ticksIn anyone last es) (ticksIn sel last es) (ticksIn (λ n. eqb n x) last es) (weight sel x s)
+    (f * m - allotmentAt s x) (omega arith) (ticks-split x last es) (sub-le (f * m) (allotmentAt s x)) (omega (arith, sums)) w in
+    omega (arith, all)
 
 -- The limit on a second thread: y alone counts, at the rate of its reservation. It needs no sum over the others.
 
 alone : (y g : ℕ) (s : Scheduler) → T (sound s) → Reserved g y s → sumOf (mask (λ n. eqb n y) (reservationAt s)) (listed s) ≤ g
 alone y g s t r =
-    subst (λ (z : ℕ). sumOf (mask (λ n. eqb n y) (reservationAt s)) (listed s) ≤ z) (r .reserved)
+    subst (λ (z : ℕ). sumOf (mask (λ n. eqb n y) (reservationAt s)) (listed s) ≤ z) (r .amount)
     (sumOf-once y (reservationAt s) (listed s) ((facts s t) .once))
 
-second-apart : (s : Scheduler) → T (sound s) → (cs : List Call) (x y : ℕ) → (x ≡ y → ⊥) → Protected s cs x → Present s cs y → Second s cs x y
+second-apart : (s : Scheduler) → T (sound s) → (cs : List Call) (x y : ℕ) → (x ≡ y → ⊥) → Protected s cs x → Present s cs y
+    → Second s cs x y
 unfolding ticksBy potential Bound
 second-apart s t cs x y apart px py =
     let f = reservationAt s x in
@@ -156,13 +171,14 @@ second-apart s t cs x y apart px py =
     let es = trace s cs in
     let last = s .running in
     let k = facts s t in
-    let guard : Guarded f x s = record { admitted = px .admitted; runnable = px .runnable; reserved = refl } in
-    let res : Reserved g y s = record { admitted = py .admitted; reserved = refl } in
+    let guard : Guarded f x s = record { reserved = px .reserved; runnable = px .runnable; amount = refl } in
+    let res : Reserved g y s = record { reserved = py .reserved; amount = refl } in
     let sums : f * ticksIn sel last es + potential f g sel x (final s cs) ≤ potential f g sel x s + g * ticksIn (λ n. eqb n x) last es =
     stretch f g g sel x y (ne-eqb x y apart) (λ s t _ r. alone y g s t r) cs s last (λ _. refl) guard res (px .keeps) (py .keeps) in
-    let w = mul-le-mul-left f (weight-one s k x y g (py .admitted) refl) in
-    owed-one f g m (ticksIn sel last es) (ticksIn (λ n. eqb n x) last es) (weight sel x s) (f * m - allotmentAt s x)
-    (sub-le (f * m) (allotmentAt s x)) (omega (arith, sums)) w
+    let w = mul-le-mul-left f (weight-one s k x y g (py .reserved) refl) in
+    let one = owed-one f g m (ticksIn sel last es) (ticksIn (λ n. eqb n x) last es) (weight sel x s) (f * m - allotmentAt s x)
+    (sub-le (f * m) (allotmentAt s x)) (omega (arith, sums)) w in
+    omega (arith, one)
 
 pub second : (s : Scheduler) → T (sound s) → (cs : List Call) (x y : ℕ) → Protected s cs x → Present s cs y → Second s cs x y
 second s t cs x y px py =

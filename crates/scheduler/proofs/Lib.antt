@@ -2,10 +2,10 @@ pub mod Facts
 pub mod Passed
 pub mod Steps
 pub mod Tree
-pub mod Guarantee
-pub mod Preserved
 pub mod ListRule
+pub mod Soundness
+pub mod Preserved
+pub mod Share
+pub mod Guarantee
 pub mod Computes
 pub mod Example
-pub mod Share
-pub mod Soundness

@@ -1,29 +1,30 @@
--- The list facts of the paper's "The list rule", as theorems: mutual order, place and allotment, wake, idle, and the count before the
--- chosen thread; and when the anchor is set.
+-- RULE 2, its list facts as theorems about `step` and `effect`: mutual order, place and allotment, wake, idle, the count before the
+-- chosen thread; and RULE 4.2, where the anchor is set. Each goes by the facts of a sound state and the laws of the one list it changes.
 use Prim.Native.Nat.{ℕ, _+_, _-_, _*_, _≤_, _<_}
 use mathlib.Core.Path.{_≡_, refl, ap, _∙_}
 use mathlib.Core.Bool.{Bool, true, false, not, _&&_, _||_}
 use native.Mathlib.Omega.{arith}
 use native.Mathlib.Nat.{sub-self, mul-zero}
-use lib.ListN.{length, getD, take, set}
-use lib.Dec.{T, ltb, leb, eqb, ltb→lt}
+use lib.ListN.{length, getD, take}
+use lib.Dec.{T, T-not, ltb, leb, eqb, ltb→lt}
 use borrow.Author.Tests.{eqb-true, eqb-false, ne-eqb, eq-eqb, lt-leb}
 use lib.IntN.{pos, subℕ}
-use Rattle.base.specs.Lists.{without, everyOf}
-use Rattle.base.proofs.Bools.{cases, and-l, is, isn't, holds, deny}
-use Rattle.base.proofs.Lists.{before, everyOf-at, everyOf-map, first-found, passed-before, passed-at, passed-all, first-none, without-snoc, without-twice, member-take}
-use Rattle.base.proofs.Sums.{only}
+use Rattle.base.specs.Lists.{member, without, everyOf}
+use Rattle.base.proofs.Bools.{cases, and-l, isn't, holds}
+use Rattle.base.proofs.Lists.{before, everyOf-at, everyOf-map, passed-before, passed-at, passed-all, first-none, without-snoc}
+use Rattle.base.proofs.Lists.{without-twice, member-take}
 use Rattle.scheduler.specs.declared.Thread.{Thread}
 use Rattle.scheduler.specs.declared.Scheduler.{Scheduler}
-use Rattle.scheduler.specs.State.{threadAt, admittedAt, blockedAt, runnableAt, reservedAt, allotmentAt, listed, withThread, withGroup, withList, withRun, isRunnable, isBlocked}
-use Rattle.scheduler.specs.Sound.{sound}
+use Rattle.scheduler.specs.State.{threadAt, admittedAt, blockedAt, runnableAt, reservedAt, allotmentAt, listed, withThread, withGroup}
+use Rattle.scheduler.specs.State.{withList, withRun, isRunnable, isBlocked}
 use Rattle.scheduler.specs.Refusals.{Call, openGroup, closeGroup, admit, remove, wake, dispatch, report, refusal}
-use Rattle.scheduler.specs.Effects.{rear, toRear, offList, join, newThread, wokenThread, renewed, chargedThread, charged, exited, reported, chosen, passedOver, effect}
+use Rattle.scheduler.specs.Effects.{rear, toRear, offList, join, newThread, wokenThread, renewed, chargedThread, charged, exited}
+use Rattle.scheduler.specs.Effects.{reported, chosen, passedOver, effect}
 use Rattle.scheduler.specs.Rule.{isDispatch, accept, refuse, step}
-use Rattle.scheduler.specs.Stretch.{accepted}
-use Rattle.scheduler.proofs.Facts.{Facts, facts, in-threads, member-admitted, fits, take-rear, take-off, room, listed-join, thread-same, unlisted}
+use Rattle.scheduler.proofs.Facts.{Facts, facts, admitted-reserved, in-threads, member-admitted, fits, take-rear, take-off, room}
+use Rattle.scheduler.proofs.Facts.{listed-join, thread-same, unlisted}
 use Rattle.scheduler.proofs.Passed.{passes, admit-passed, remove-passed, wake-passed, report-passed, reported-cases}
-use Rattle.scheduler.proofs.Steps.{step-state, refused-state, woken-allotment, charged-left}
+use Rattle.scheduler.proofs.Steps.{step-state, refused-state, woken-listed, chosen-runnable, woken-allotment, charged-left}
 use Rattle.scheduler.specs.Accounts.{lagOf}
 
 -- the thread that a call puts into the list, takes off it or may move, or 64
@@ -36,24 +37,25 @@ mover (wake n) s = 64
 mover dispatch s = 64
 mover (report reason used) s = s .running
 
-kept-off : (s : Scheduler) → Facts s → (r : ℕ) → T (admittedAt s r) → without r (take (s .count - 1) (rear s r)) ≡ without r (listed s)
+kept-off : (s : Scheduler) → Facts s → (r : ℕ) → T (reservedAt s r) → without r (take (s .count - 1) (rear s r)) ≡ without r (listed s)
 unfolding rear listed
 kept-off s k r a =
     ap (without r) (take-off (s .order) (s .count) r (fits s k) (k .once) ((k .thread r a) .in-list)) ∙ without-twice r (listed s)
 
-kept-rear : (s : Scheduler) → Facts s → (r : ℕ) → T (admittedAt s r) → without r (take (s .count) (rear s r)) ≡ without r (listed s)
+kept-rear : (s : Scheduler) → Facts s → (r : ℕ) → T (reservedAt s r) → without r (take (s .count) (rear s r)) ≡ without r (listed s)
 unfolding rear listed
 kept-rear s k r a =
     ap (without r) (take-rear (s .order) (s .count) r (fits s k) (k .once) ((k .thread r a) .in-list))
     ∙ without-snoc r (without r (listed s)) ∙ without-twice r (listed s)
 
-kept-report : (s : Scheduler) → Facts s → (r reason used : ℕ) → T (admittedAt s r) → without r (listed (reported r reason used s)) ≡ without r (listed s)
+kept-report : (s : Scheduler) → Facts s → (r reason used : ℕ) → T (reservedAt s r)
+    → without r (listed (reported r reason used s)) ≡ without r (listed s)
 unfolding listed exited offList toRear charged withList withRun withThread rear
 kept-report s k r reason used a =
     reported-cases (λ s′. without r (listed s′) ≡ without r (listed s)) r reason used s
     (λ _. kept-off s k r a)
-    (λ _. kept-rear s k r a)
-    (λ _. refl)
+    (λ _ _. kept-rear s k r a)
+    (λ _ _. refl)
 
 kept-accepted : (c : Call) (s : Scheduler) → refusal c s ≡ 0 → without (mover c s) (listed (effect c s)) ≡ without (mover c s) (listed s)
 unfolding effect mover listed withGroup withThread withRun withList offList rear
@@ -63,19 +65,20 @@ kept-accepted (admit n g f) s e =
     let ok = passes (admit n g f) s e in
     let k = facts s (ok .0) in
     let c = admit-passed s n g f (ok .1) in
-    ap (without n) (listed-join (withThread s n (newThread s g f)) (omega (arith, room s k n (c .0) (unlisted s k n (c .1)), k .order64)) n) ∙ without-snoc n (listed s)
+    ap (without n) (listed-join (withThread s n (newThread s g f)) (omega (arith, room s k n (c .0) (unlisted s k n (c .1)), k .order64)) n)
+    ∙ without-snoc n (listed s)
 kept-accepted (remove n) s e =
     let ok = passes (remove n) s e in
-    kept-off s (facts s (ok .0)) n ((remove-passed s n (ok .1)) .0)
+    kept-off s (facts s (ok .0)) n (admitted-reserved s n ((remove-passed s n (ok .1)) .0))
 kept-accepted (wake n) s e = refl
 kept-accepted dispatch s e = refl
 kept-accepted (report reason used) s e =
     let ok = passes (report reason used) s e in
     let k = facts s (ok .0) in
-    kept-report s k (s .running) reason used ((k .run ((report-passed s reason used (ok .1)) .0)) .admitted)
+    kept-report s k (s .running) reason used (admitted-reserved s (s .running)
+    ((k .run ((report-passed s reason used (ok .1)) .0)) .admitted))
 
--- "Other threads keep their mutual order through every call": the list without the one thread that a call adds, takes off or moves is
--- the same before and after it, refused or not.
+-- RULE 2.10: the list without the one thread that a call adds, takes off or moves is the same before and after it, refused or not.
 pub mutual-order : (c : Call) (s : Scheduler) → without (mover c s) (listed ((step c s) .state)) ≡ without (mover c s) (listed s)
 unfolding accept refuse
 mutual-order c s =
@@ -89,11 +92,13 @@ neither false b p q = q
 
 not-renewed : (reason used : ℕ) (t : Thread) → reason ≤ 1 → used < t .allotment → renewed reason used t ≡ false
 unfolding renewed
-not-renewed reason used t small left = neither (eqb reason 2) (leb (t .allotment) used) (ne-eqb reason 2 (λ z. omega arith)) (lt-leb (t .allotment) used left)
+not-renewed reason used t small left =
+    neither (eqb reason 2) (leb (t .allotment) used) (ne-eqb reason 2 (λ z. omega arith)) (lt-leb (t .allotment) used left)
 
--- "Otherwise it keeps its place and what remains": a tick or a block with something left.
+-- RULE 2.6, after a tick or a block with something left.
 pub left-keeps : (reason used : ℕ) (s : Scheduler) → refusal (report reason used) s ≡ 0 → reason ≤ 1 → used < allotmentAt s (s .running)
-    → (listed (effect (report reason used) s) ≡ listed s) × (allotmentAt (effect (report reason used) s) (s .running) + used ≡ allotmentAt s (s .running))
+    → (listed (effect (report reason used) s) ≡ listed s) × (allotmentAt (effect (report reason used) s) (s .running) + used ≡ allotmentAt s
+    (s .running))
 unfolding effect reported charged withRun withThread listed allotmentAt
 left-keeps reason used s e small left =
     let ok = passes (report reason used) s e in
@@ -103,26 +108,36 @@ left-keeps reason used s e small left =
     let stays = not-renewed reason used (threadAt s r) small left in
     rw (ne-eqb reason 3 (λ z. omega arith), stays) (refl, charged-left s r reason used (in-threads s k r a) stays)
 
--- "Wake .. changes neither place nor allotment."
+-- RULE 2.8.
 pub wake-keeps : (n : ℕ) (s : Scheduler) → refusal (wake n) s ≡ 0
     → (listed (effect (wake n) s) ≡ listed s) × ((j : ℕ) → allotmentAt (effect (wake n) s) j ≡ allotmentAt s j)
-unfolding effect listed withThread withList toRear
+unfolding effect
 wake-keeps n s e =
     let ok = passes (wake n) s e in
-    (refl, woken-allotment s (facts s (ok .0)) n (wake-passed s n (ok .1)))
+    (woken-listed n s, woken-allotment s (facts s (ok .0)) n (wake-passed s n (ok .1)))
 
 below-64 : (s : Scheduler) → Facts s → T (everyOf (λ n. ltb n 64) (listed s))
-below-64 s k = everyOf-map (λ n. ltb n 64 && reservedAt s n) (λ n. ltb n 64) (listed s) (λ j _ u. and-l (ltb j 64) (reservedAt s j) u) (k .members)
+below-64 s k =
+    everyOf-map (λ n. ltb n 64 && reservedAt s n) (λ n. ltb n 64) (listed s) (λ j _ u. and-l (ltb j 64) (reservedAt s j) u) (k .members)
 
--- "It answers idle .. if and only if no thread is runnable."
-pub idle-only : (s : Scheduler) → refusal dispatch s ≡ 0 → (step dispatch s) .thread ≡ 64 → (n : ℕ) → T (admittedAt s n) → T (runnableAt s n) → ⊥
+-- RULE 2.4: a dispatch that is not idle names a runnable thread of the list; it is idle if and only if no thread is runnable.
+pub run-runnable : (s : Scheduler) → refusal dispatch s ≡ 0 → ((step dispatch s) .thread ≡ 64 → ⊥)
+    → T (member ((step dispatch s) .thread) (listed s)) × T (runnableAt s ((step dispatch s) .thread))
+unfolding accept isDispatch
+run-runnable s e ran =
+    let same = step-state dispatch s e in
+    rw same (chosen-runnable s (rw same at ran))
+
+pub idle-only : (s : Scheduler) → refusal dispatch s ≡ 0 → (step dispatch s) .thread ≡ 64 → (n : ℕ) → T (admittedAt s n)
+    → T (runnableAt s n) → ⊥
 unfolding accept isDispatch chosen
 idle-only s e idle n a r =
     let k = facts s ((passes dispatch s e) .0) in
     let none = first-none (runnableAt s) (listed s) (below-64 s k) (rw (step-state dispatch s e) at idle) in
-    deny (runnableAt s n) (everyOf-at (λ j. not (runnableAt s j)) (listed s) none n ((k .thread n a) .in-list)) r
+    T-not (runnableAt s n) (everyOf-at (λ j. not (runnableAt s j)) (listed s) none n ((k .thread n (admitted-reserved s n a)) .in-list)) r
 
-pub idle-if : (s : Scheduler) → refusal dispatch s ≡ 0 → ((n : ℕ) → T (admittedAt s n) → T (runnableAt s n) → ⊥) → (step dispatch s) .thread ≡ 64
+pub idle-if : (s : Scheduler) → refusal dispatch s ≡ 0 → ((n : ℕ) → T (admittedAt s n) → T (runnableAt s n) → ⊥)
+    → (step dispatch s) .thread ≡ 64
 unfolding accept isDispatch chosen
 idle-if s e none =
     rw (step-state dispatch s e)
@@ -130,7 +145,7 @@ idle-if s e none =
     (λ q. eqb-true (chosen s) 64 q)
     (λ q.
     let k = facts s ((passes dispatch s e) .0) in
-    let c = first-found (runnableAt s) (listed s) (eqb-false (chosen s) 64 q) in
+    let c = chosen-runnable s (eqb-false (chosen s) 64 q) in
     absurd (none (chosen s) (member-admitted s k (chosen s) (c .0)) (c .1))))
 
 -- in a sound state an admitted thread that is not runnable is blocked
@@ -138,21 +153,24 @@ blocked-of : (s : Scheduler) → Facts s → (n : ℕ) → T (admittedAt s n) �
 unfolding admittedAt runnableAt blockedAt
 blocked-of s k n a r =
     holds (isBlocked (threadAt s n))
-    (eq-eqb ((threadAt s n) .status) 2 (two ((threadAt s n) .status) (ltb→lt 0 ((threadAt s n) .status) a) (k .status n ((k .thread n a) .small)) (eqb-false ((threadAt s n) .status) 1 (isn't (isRunnable (threadAt s n)) r))))
+    (eq-eqb ((threadAt s n) .status) 2 (two ((threadAt s n) .status) (ltb→lt 0 ((threadAt s n) .status) a) (k .status n (k .small n a))
+    (eqb-false ((threadAt s n) .status) 1 (isn't (isRunnable (threadAt s n)) r))))
   where
     two : (v : ℕ) → 0 < v → v ≤ 2 → (v ≡ 1 → ⊥) → v ≡ 2
     two v some most ne = omega (arith, ne)
 
--- "It also answers how many threads stood before it in the list, all blocked": those before the place of that number are blocked, the
--- chosen thread stands at that place, and for idle (64) the number is the length of the list.
+-- RULE 2.4: the threads before the place that a dispatch counts are blocked, the chosen thread stands at that place, and for idle (64)
+-- the number is the length of the list.
 pub before-blocked : (s : Scheduler) → refusal dispatch s ≡ 0
-    → T (everyOf (blockedAt s) (take ((step dispatch s) .before) (listed s))) × (getD (listed s) ((step dispatch s) .before) 64 ≡ (step dispatch s) .thread)
+    → T (everyOf (blockedAt s) (take ((step dispatch s) .before) (listed s)))
+    × (getD (listed s) ((step dispatch s) .before) 64 ≡ (step dispatch s) .thread)
 unfolding accept isDispatch chosen passedOver
 before-blocked s e =
     let k = facts s ((passes dispatch s e) .0) in
     rw (step-state dispatch s e) (
       everyOf-map (λ n. not (runnableAt s n)) (blockedAt s) (take (passedOver s) (listed s))
-          (λ n m r. blocked-of s k n (member-admitted s k n (member-take n (passedOver s) (listed s) m)) r) (passed-before (runnableAt s) (listed s)),
+          (λ n m r. blocked-of s k n (member-admitted s k n (member-take n (passedOver s) (listed s) m)) r)
+          (passed-before (runnableAt s) (listed s)),
       passed-at (runnableAt s) (listed s),
     )
 
@@ -163,21 +181,25 @@ idle-length s e idle =
     let none = first-none (runnableAt s) (listed s) (below-64 s k) (rw (step-state dispatch s e) at idle) in
     rw (step-state dispatch s e) (passed-all (runnableAt s) (listed s) none)
 
--- "A thread's anchor is set at admission, at each wake and at its own yield, after that report's charge": its lag is then 0.
+-- RULE 4.2: the anchor is set at admission, at a wake and at a yield, since the lag is then 0.
 still : (f m : ℕ) → subℕ (f * (m - m)) (1000 * 0) ≡ pos 0
 still f m = rw (sub-self m, mul-zero f) refl
 
-pub admission-lag : (n g f : ℕ) (s : Scheduler) → refusal (admit n g f) s ≡ 0 → lagOf ((effect (admit n g f) s) .meter) (threadAt (effect (admit n g f) s) n) ≡ pos 0
+pub admission-lag : (n g f : ℕ) (s : Scheduler) → refusal (admit n g f) s ≡ 0
+    → lagOf ((effect (admit n g f) s) .meter) (threadAt (effect (admit n g f) s) n) ≡ pos 0
 unfolding effect join withList withThread newThread lagOf
 admission-lag n g f s e =
     let ok = passes (admit n g f) s e in
-    rw (thread-same s n (newThread s g f) (omega (arith, (facts s (ok .0)) .threads64, (admit-passed s n g f (ok .1)) .0))) (still f (s .meter))
+    rw (thread-same s n (newThread s g f) (omega (arith, (facts s (ok .0)) .threads64, (admit-passed s n g f (ok .1)) .0)))
+    (still f (s .meter))
 
-pub wake-lag : (n : ℕ) (s : Scheduler) → refusal (wake n) s ≡ 0 → lagOf ((effect (wake n) s) .meter) (threadAt (effect (wake n) s) n) ≡ pos 0
+pub wake-lag : (n : ℕ) (s : Scheduler) → refusal (wake n) s ≡ 0
+    → lagOf ((effect (wake n) s) .meter) (threadAt (effect (wake n) s) n) ≡ pos 0
 unfolding effect withThread wokenThread lagOf
 wake-lag n s e =
     let ok = passes (wake n) s e in
-    rw (thread-same s n (wokenThread s (threadAt s n)) (in-threads s (facts s (ok .0)) n (wake-passed s n (ok .1)))) (still ((threadAt s n) .reservation) (s .meter))
+    rw (thread-same s n (wokenThread s (threadAt s n)) (in-threads s (facts s (ok .0)) n (wake-passed s n (ok .1))))
+    (still ((threadAt s n) .reservation) (s .meter))
 
 pub yield-lag : (used : ℕ) (s : Scheduler) → refusal (report 2 used) s ≡ 0
     → lagOf ((effect (report 2 used) s) .meter) (threadAt (effect (report 2 used) s) (s .running)) ≡ pos 0
@@ -186,4 +208,5 @@ yield-lag used s e =
     let ok = passes (report 2 used) s e in
     let k = facts s (ok .0) in
     let a = (k .run ((report-passed s 2 used (ok .1)) .0)) .admitted in
-    rw (thread-same s (s .running) (chargedThread s 2 used (threadAt s (s .running))) (in-threads s k (s .running) a)) (still ((threadAt s (s .running)) .reservation) (s .meter + used))
+    rw (thread-same s (s .running) (chargedThread s 2 used (threadAt s (s .running))) (in-threads s k (s .running) a))
+    (still ((threadAt s (s .running)) .reservation) (s .meter + used))

@@ -1,27 +1,29 @@
--- Opening and closing a group keep a state sound, and so does every accepted call (`preserved`); a start returns a sound state.
+-- Every accepted call keeps a state sound (`preserved`), so every call does (`stays-sound`); a start returns a sound state. Opening and
+-- closing a group go here, by the facts of the state before it with one group replaced; the other calls in Soundness.Calls.
 use Prim.Native.Nat.{ℕ, _+_, _-_, _≤_, _<_}
 use mathlib.Core.Path.{_≡_, refl, sym, ap, subst, _∙_}
-use mathlib.Core.List.{[]}
-use mathlib.Core.Bool.{Bool, true, false, not, cond, _&&_, _||_}
+use mathlib.Core.Bool.{Bool, true, false, not, cond, _&&_, and-false}
 use native.Mathlib.Omega.{arith}
 use lib.ListN.{length-set}
 use lib.Seq.{getD-set-same, getD-set-other}
-use lib.Dec.{T, ltb, eqb, lit<, lt→ltb}
-use borrow.Author.Tests.{eqb-true, eqb-false, ne-eqb, eq-eqb, not-false}
-use Rattle.base.specs.Checks.{within, _⇒_}
-use Rattle.base.specs.Lists.{distinct, everyOf, everyBelow, sumBelow}
-use Rattle.base.proofs.Bools.{by, cases, and-r, is, holds, clash, deny, or-false-l, or-false-r}
+use lib.Dec.{T, T-not, ltb, eqb, lt→ltb}
+use borrow.Author.Tests.{eqb-true, eqb-false, ne-eqb, eq-eqb}
+use Rattle.base.specs.Checks.{within}
+use Rattle.base.proofs.Bools.{by, cases, and-r, is, holds, clash}
 use Rattle.base.proofs.Sums.{everyBelow-at, sum-update}
 use Rattle.scheduler.specs.declared.Group.{Group}
 use Rattle.scheduler.specs.declared.Scheduler.{Scheduler}
-use Rattle.scheduler.specs.State.{noGroup, threadAt, groupAt, admittedAt, blockedAt, runnableAt, reservationAt, openAt, listed, sliceAt, withGroup, isOpen}
-use Rattle.scheduler.specs.Sound.{settingsOk, load, threadIn, childOf, reservedIn, ceilingsIn, groupOk, groupsOk, threadOk, listOk, runningOk, shapeOk, sound}
+use Rattle.scheduler.specs.State.{noGroup, threadAt, groupAt, admittedAt, reservedAt, runnableAt, reservationAt, openAt, listed}
+use Rattle.scheduler.specs.State.{sliceAt, withGroup, isOpen}
+use Rattle.scheduler.specs.Sound.{settingsOk, load, threadIn, childOf, reservedIn, ceilingsIn}
+use Rattle.scheduler.specs.Sound.{shapeOk, sound}
 use Rattle.scheduler.specs.Refusals.{Call, openGroup, closeGroup, admit, remove, wake, dispatch, report, free, refusal, startRefusal}
 use Rattle.scheduler.specs.Effects.{effect, started, unstarted}
 use Rattle.scheduler.specs.Rule.{accept, refuse, step, startReply}
-use Rattle.scheduler.specs.Stretch.{accepted}
-use Rattle.scheduler.proofs.Facts.{GroupFacts, Facts, facts, sound-of, open-small, carries, peel}
-use Rattle.scheduler.proofs.Passed.{passes, remove-passed, wake-passed, report-passed, admit-ok, OpenOk, open-ok, CloseOk, close-ok, dispatch-early, start-passed}
+use Rattle.scheduler.proofs.Facts.{GroupFacts, Facts, facts, sound-of, open-small, carries}
+use Rattle.scheduler.proofs.Passed.{passes, remove-passed, wake-passed, report-passed, admit-ok, OpenOk, open-ok, CloseOk, close-ok}
+use Rattle.scheduler.proofs.Passed.{dispatch-early, start-passed}
+use Rattle.scheduler.proofs.Computes.{lists, soundness}
 use Rattle.scheduler.proofs.Tree.{carried}
 use Rattle.scheduler.proofs.Soundness.Calls.{wake-facts, remove-facts, report-facts, dispatch-facts, admit-facts}
 use Rattle.scheduler.proofs.Steps.{step-state, refused-state}
@@ -35,7 +37,7 @@ record Regrouped (s : Scheduler) (n : ℕ) (r : Group) : Type 0 where
   not-root : n ≡ 0 → ⊥
   -- an open group other than n stays a parent of what it was a parent of
   parents : (g : ℕ) → g < 16 → T (openAt s g) → (g ≡ n → ⊥) → (groupAt s g) .parent ≡ n → g ≡ 0
-  threads : (i : ℕ) → i < 64 → T (admittedAt s i) → (threadAt s i) .group ≡ n → ⊥
+  threads : (i : ℕ) → i < 64 → T (reservedAt s i) → (threadAt s i) .group ≡ n → ⊥
   fits-in : (g : ℕ) → T (openAt s g) → load s g + ceilingOf n r g ≤ (groupAt s g) .ceiling + ceilingOf n (groupAt s n) g
   own-flag : r .opened ≤ 1
   own : T (isOpen r) → (1 ≤ r .ceiling) × (r .ceiling ≤ 1000) × (r .parent < n) × T (openAt s (r .parent)) × (load s n ≤ r .ceiling)
@@ -61,9 +63,11 @@ module _ (s : Scheduler) (k : Facts s) (n : ℕ) (r : Group) (c : Regrouped s n 
   opened j ne o = subst (λ (u : Group). T (ltb j 16 && isOpen u)) (at-other j ne) o
 
   load-change : (g : ℕ) → load s′ g + ceilingOf n (groupAt s n) g ≡ load s g + ceilingOf n r g
-  unfolding load reservedIn ceilingsIn threadIn childOf openAt s′ withGroup admittedAt reservationAt
+  unfolding load reservedIn ceilingsIn threadIn childOf openAt s′ withGroup reservedAt reservationAt
   load-change g =
-      let a = sum-update (λ j. ceilingOf j (groupAt s j) g) (λ j. ceilingOf j (groupAt s′ j) g) n (λ j ne. ap (λ (u : Group). ceilingOf j u g) (at-other j ne)) 16 (c .small) in
+      let a =
+      sum-update (λ j. ceilingOf j (groupAt s j) g) (λ j. ceilingOf j (groupAt s′ j) g) n
+      (λ j ne. ap (λ (u : Group). ceilingOf j u g) (at-other j ne)) 16 (c .small) in
       let b = ap (λ (u : Group). ceilingOf n u g) at-n in
       omega (arith, a, b)
 
@@ -72,14 +76,10 @@ module _ (s : Scheduler) (k : Facts s) (n : ℕ) (r : Group) (c : Regrouped s n 
       by (λ b. isOpen r ≡ b → cond (ltb n 16 && b && ltb 0 n && eqb (r .parent) n) (r .ceiling) 0 ≤ 0) (isOpen r)
       (λ e _.
       let o = c .own (holds (isOpen r) e) in
-      rw (ne-eqb (r .parent) n (λ z. omega (arith, o .2)), and-none (ltb n 16 && true && ltb 0 n)) (omega arith))
+      rw (ne-eqb (r .parent) n (λ z. omega (arith, o .2)), and-false (ltb n 16 && true && ltb 0 n)) (omega arith))
       (λ e _. none (ltb n 16))
       refl
     where
-      and-none : (b : Bool) → (b && false) ≡ false
-      and-none true = refl
-      and-none false = refl
-
       none : (b : Bool) → cond (b && false && ltb 0 n && eqb (r .parent) n) (r .ceiling) 0 ≤ 0
       none true = omega arith
       none false = omega arith
@@ -101,7 +101,12 @@ module _ (s : Scheduler) (k : Facts s) (n : ℕ) (r : Group) (c : Regrouped s n 
           record {
             positive = subst (λ (z : Group). 1 ≤ z .ceiling) (sym at-n) (w .0);
             at-most = subst (λ (z : Group). z .ceiling ≤ 1000) (sym at-n) (w .1);
-            parent = λ _. (subst (λ (z : Group). z .parent < n) (sym at-n) (w .2), subst (λ (z : Group). T (openAt s′ (z .parent))) (sym at-n) (opens (r .parent) (λ z. omega (arith, w .2)) (w .3)));
+            parent =
+                λ _. (
+                  subst (λ (z : Group). z .parent < n) (sym at-n) (w .2),
+                  subst (λ (z : Group). T (openAt s′ (z .parent))) (sym at-n)
+                      (opens (r .parent) (λ z. omega (arith, w .2)) (w .3)),
+                );
             carries = subst (λ (z : Group). load s′ n ≤ z .ceiling) (sym at-n) (omega (arith, load-change n, self-free, w .4));
           }
 
@@ -116,13 +121,14 @@ module _ (s : Scheduler) (k : Facts s) (n : ℕ) (r : Group) (c : Regrouped s n 
             parent = λ g0.
                 let w = q .parent g0 in (
                   subst (λ (u : Group). u .parent < g) (sym e) (w .0),
-                  subst (λ (u : Group). T (openAt s′ (u .parent))) (sym e) (opens ((groupAt s g) .parent) (λ z. g0 (c .parents g l o′ ne z)) (w .1)),
+                  subst (λ (u : Group). T (openAt s′ (u .parent))) (sym e) (opens ((groupAt s g) .parent) (λ z. g0 (c .parents g l o′ ne z))
+                      (w .1)),
                 );
             carries = subst (λ (u : Group). load s′ g ≤ u .ceiling) (sym e) (omega (arith, load-change g, c .fits-in g o′));
           }
 
   regrouped-facts : Facts s′
-  unfolding s′ withGroup listed admittedAt runnableAt blockedAt
+  unfolding s′ withGroup listed admittedAt reservedAt runnableAt
   regrouped-facts = record {
     threads64 = k .threads64;
     groups16 = length-set (s .groups) n r ∙ k .groups16;
@@ -132,14 +138,22 @@ module _ (s : Scheduler) (k : Facts s) (n : ℕ) (r : Group) (c : Regrouped s n 
     whole = ap (λ (u : Group). u .ceiling) (at-other 0 (λ z. c .not-root (sym z))) ∙ k .whole;
     flag = λ g l.
         by (λ b. eqb g n ≡ b → (groupAt s′ g) .opened ≤ 1) (eqb g n)
-        (λ e _. subst (λ (i : ℕ). (groupAt s′ i) .opened ≤ 1) (sym (eqb-true g n e)) (subst (λ (u : Group). u .opened ≤ 1) (sym at-n) (c .own-flag)))
+        (λ e _. subst (λ (i : ℕ). (groupAt s′ i) .opened ≤ 1) (sym (eqb-true g n e))
+        (subst (λ (u : Group). u .opened ≤ 1) (sym at-n) (c .own-flag)))
         (λ e _. subst (λ (u : Group). u .opened ≤ 1) (sym (at-other g (eqb-false g n e))) (k .flag g l))
         refl;
     group = group-facts;
     status = k .status;
+    small = k .small;
+    account = k .account;
     thread = λ i a.
         let q = k .thread i a in
-        record { small = q .small; in-list = q .in-list; in-group = opens ((threadAt s i) .group) (c .threads i (q .small) a) (q .in-group); fit = q .fit };
+        record {
+          small = q .small;
+          in-list = q .in-list;
+          in-group = opens ((threadAt s i) .group) (c .threads i (q .small) a) (q .in-group);
+          fit = q .fit;
+        };
     count64 = k .count64;
     members = k .members;
     once = k .once;
@@ -184,7 +198,8 @@ open-facts s k n p d ok =
     cut a b v true false z h = omega (arith, h)
     cut a b v false y z h = omega (arith, h)
 
-    extra : (g : ℕ) → T (openAt s g) → load s g + cond (ltb n 16 && true && ltb 0 n && eqb p g) d 0 ≤ (groupAt s g) .ceiling + ceilingOf n (groupAt s n) g
+    extra : (g : ℕ) → T (openAt s g)
+        → load s g + cond (ltb n 16 && true && ltb 0 n && eqb p g) d 0 ≤ (groupAt s g) .ceiling + ceilingOf n (groupAt s n) g
     extra g o = cut (load s g) ((groupAt s g) .ceiling + ceilingOf n (groupAt s n) g) d (ltb n 16) (ltb 0 n) (eqb p g)
         (by (λ b. eqb p g ≡ b → load s g + cond b d 0 ≤ (groupAt s g) .ceiling + ceilingOf n (groupAt s n) g) (eqb p g)
         (λ e _. omega (arith, subst (λ (i : ℕ). d ≤ free s i) (eqb-true p g e) (ok .fits-in), free-is s g, carries s k g o))
@@ -197,9 +212,9 @@ child : (s : Scheduler) (n g : ℕ) → T (openAt s g) → (g ≡ 0 → ⊥) →
 unfolding childOf
 child s n g o ne z = rw (is (openAt s g) o, is (ltb 0 g) (lt→ltb 0 g (omega (arith, ne))), eq-eqb ((groupAt s g) .parent) n z) tt
 
-inside : (s : Scheduler) (n i : ℕ) → T (admittedAt s i) → (threadAt s i) .group ≡ n → T (threadIn s n i)
+inside : (s : Scheduler) (n i : ℕ) → T (reservedAt s i) → (threadAt s i) .group ≡ n → T (threadIn s n i)
 unfolding threadIn
-inside s n i a z = rw (is (admittedAt s i) a, eq-eqb ((threadAt s i) .group) n z) tt
+inside s n i a z = rw (is (reservedAt s i) a, eq-eqb ((threadAt s i) .group) n z) tt
 
 close-facts : (s : Scheduler) → Facts s → (n : ℕ) → CloseOk s n → Facts (effect (closeGroup n) s)
 unfolding effect s′
@@ -211,9 +226,10 @@ close-facts s k n ok =
           by (λ b. eqb g 0 ≡ b → g ≡ 0) (eqb g 0)
           (λ e _. eqb-true g 0 e)
           (λ e _.
-          absurd (deny (childOf s n g) (everyBelow-at (λ i. not (childOf s n i)) 16 (ok .no-child) g l) (child s n g o (eqb-false g 0 e) z)))
+          absurd (T-not (childOf s n g) (everyBelow-at (λ i. not (childOf s n i)) 16 (ok .no-child) g l)
+          (child s n g o (eqb-false g 0 e) z)))
           refl;
-      threads = λ i l a z. deny (threadIn s n i) (everyBelow-at (λ i. not (threadIn s n i)) 64 (ok .no-thread) i l) (inside s n i a z);
+      threads = λ i l a z. T-not (threadIn s n i) (everyBelow-at (λ i. not (threadIn s n i)) 64 (ok .no-thread) i l) (inside s n i a z);
       fits-in = λ g o. omega (arith, carries s k g o, none (ltb n 16) (ltb 0 n) (eqb 0 g));
       own-flag = omega arith;
       own = λ u. absurd u;
@@ -225,7 +241,8 @@ close-facts s k n ok =
 
 -- Every accepted call.
 
-report-kept : (s : Scheduler) → Facts s → (reason used : ℕ) → (s .running ≡ 64 → ⊥) → used ≤ sliceAt s (s .running) → Facts (effect (report reason used) s)
+report-kept : (s : Scheduler) → Facts s → (reason used : ℕ) → (s .running ≡ 64 → ⊥) → used ≤ sliceAt s (s .running)
+    → Facts (effect (report reason used) s)
 unfolding effect
 report-kept s k reason used runs fit = report-facts s k (s .running) refl runs reason used fit
 
@@ -245,11 +262,11 @@ preserved c s e = sound-of (effect c s) (go c e)
     go (remove n) e =
         let ok = passes (remove n) s e in
         let c = remove-passed s n (ok .1) in
-        remove-facts s (facts s (ok .0)) n (((facts s (ok .0)) .thread n (c .0)) .small) (c .0) (c .1)
+        remove-facts s (facts s (ok .0)) n ((facts s (ok .0)) .small n (c .0)) (c .0) (c .1)
     go (wake n) e =
         let ok = passes (wake n) s e in
         let a = wake-passed s n (ok .1) in
-        wake-facts s (facts s (ok .0)) n (((facts s (ok .0)) .thread n a) .small) a
+        wake-facts s (facts s (ok .0)) n ((facts s (ok .0)) .small n a) a
     go dispatch e =
         let ok = passes dispatch s e in
         dispatch-facts s (facts s (ok .0)) (dispatch-early s (ok .1))
@@ -270,7 +287,7 @@ stays-sound c s t =
 
 -- everything but the settings is computed
 pub started-sound : (m p : ℕ) → T (within 1 1000 m) → T (within 1 1000000 p) → T (sound (started m p))
-unfolding sound shapeOk settingsOk groupsOk groupOk threadOk listOk runningOk load reservedIn ceilingsIn threadIn childOf everyBelow everyOf distinct sumBelow openAt admittedAt listed started within
+unfolding lists soundness openAt admittedAt reservedAt listed started
 started-sound m p a b = rw (is (within 1 1000 m) a, is (within 1 1000000 p) b) tt
 
 -- An accepted start returns a sound state; a refused one a state that is not.

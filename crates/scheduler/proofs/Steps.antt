@@ -1,5 +1,5 @@
--- Small laws of the definitions: the state after a call, accepted or refused, by cases on its refusal; and a thread's allotment and
--- slice after a thread is replaced, charged or woken, read off the table.
+-- Small laws of the definitions: the state after a call, accepted or refused, by cases on its refusal; the meter after a call, the list
+-- after a wake, the chosen thread; and a thread's allotment and slice after a thread is replaced, charged or woken, read off the table.
 use Prim.Native.Nat.{ℕ, _+_, _-_, _*_, min, _<_}
 use mathlib.Core.Path.{_≡_, refl, ap, _∙_}
 use mathlib.Core.Bool.{Bool, true, false, cond}
@@ -7,15 +7,20 @@ use native.Mathlib.Omega.{arith}
 use lib.ListN.{length}
 use lib.Dec.{T, eqb}
 use borrow.Author.Tests.{eqb-true, eqb-false, ne-eqb}
+use Rattle.base.specs.Lists.{member}
 use Rattle.base.proofs.Bools.{by}
+use Rattle.base.proofs.Lists.{first-found}
 use Rattle.scheduler.specs.declared.Thread.{Thread}
 use Rattle.scheduler.specs.declared.Scheduler.{Scheduler}
-use Rattle.scheduler.specs.State.{threadAt, admittedAt, reservationAt, allotmentAt, sliceAt, withThread}
-use Rattle.scheduler.specs.Refusals.{Call, refusal}
-use Rattle.scheduler.specs.Effects.{wokenThread, renewed, chargedThread}
+use Rattle.scheduler.specs.State.{threadAt, admittedAt, runnableAt, reservationAt, allotmentAt, listed, sliceAt, withThread}
+use Rattle.scheduler.specs.State.{withGroup}
+use Rattle.scheduler.specs.State.{withList, withRun}
+use Rattle.scheduler.specs.Refusals.{Call, openGroup, closeGroup, admit, remove, wake, dispatch, report, refusal}
+use Rattle.scheduler.specs.Effects.{toRear, offList, join, wokenThread, renewed, chargedThread, charged, exited, chosen, effect}
 use Rattle.scheduler.specs.Rule.{accept, refuse, step}
+use Rattle.scheduler.specs.Stretch.{ticksOf}
 use Rattle.scheduler.proofs.Facts.{Facts, in-threads, thread-other, thread-same}
-use Rattle.scheduler.proofs.Passed.{not-used-up}
+use Rattle.scheduler.proofs.Passed.{not-used-up, reported-cases}
 
 -- the state after a call, accepted or refused
 pub step-state : (c : Call) (s : Scheduler) → refusal c s ≡ 0 → step c s ≡ accept c s
@@ -30,6 +35,28 @@ refused-state c s ne = rw (ne-eqb (refusal c s) 0 ne)
 pub refused-same : (c : Call) (s : Scheduler) → (refusal c s ≡ 0 → ⊥) → (step c s) .state ≡ s
 unfolding refuse
 refused-same c s ne = rw (refused-state c s ne)
+
+-- an accepted call raises the meter by the ticks of its report
+pub meter-step : (c : Call) (s : Scheduler) → (effect c s) .meter ≡ s .meter + ticksOf c
+unfolding effect ticksOf withThread withGroup withList withRun offList join toRear charged exited
+meter-step (openGroup n p c) s = omega arith
+meter-step (closeGroup n) s = omega arith
+meter-step (admit n g f) s = omega arith
+meter-step (remove n) s = omega arith
+meter-step (wake n) s = omega arith
+meter-step dispatch s = omega arith
+meter-step (report reason used) s =
+    reported-cases (λ s′. s′ .meter ≡ s .meter + used) (s .running) reason used s (λ _. refl) (λ _ _. refl) (λ _ _. refl)
+
+-- a wake leaves the list as it was
+pub woken-listed : (n : ℕ) (s : Scheduler) → listed (effect (wake n) s) ≡ listed s
+unfolding effect withThread withList toRear listed
+woken-listed n s = refl
+
+-- the chosen thread stands in the list and is runnable
+pub chosen-runnable : (s : Scheduler) → (chosen s ≡ 64 → ⊥) → T (member (chosen s) (listed s)) × T (runnableAt s (chosen s))
+unfolding chosen
+chosen-runnable s ne = first-found (runnableAt s) (listed s) ne
 
 -- allotments after a change of one thread
 pub allotment-other : (s : Scheduler) (n : ℕ) (t : Thread) (j : ℕ) → (j ≡ n → ⊥) → allotmentAt (withThread s n t) j ≡ allotmentAt s j
@@ -55,7 +82,9 @@ pub charged-left : (s : Scheduler) (r reason used : ℕ) → r < length (s .thre
     → allotmentAt (withThread s r (chargedThread s reason used (threadAt s r))) r + used ≡ allotmentAt s r
 unfolding chargedThread allotmentAt
 charged-left s r reason used h e =
-    let q = charged-allotment s r reason used h ∙ ap (λ (b : Bool). cond b (reservationAt s r * s .settings .thousandth) (allotmentAt s r - used)) e in
+    let q =
+    charged-allotment s r reason used h ∙ ap (λ (b : Bool). cond b (reservationAt s r * s .settings .thousandth) (allotmentAt s r - used))
+    e in
     omega (arith, q, not-used-up reason used (threadAt s r) e)
 
 pub charged-full : (s : Scheduler) (r reason used : ℕ) → r < length (s .threads) → renewed reason used (threadAt s r) ≡ true
@@ -63,7 +92,8 @@ pub charged-full : (s : Scheduler) (r reason used : ℕ) → r < length (s .thre
 charged-full s r reason used h e =
     charged-allotment s r reason used h ∙ ap (λ (b : Bool). cond b (reservationAt s r * s .settings .thousandth) (allotmentAt s r - used)) e
 
-pub woken-allotment : (s : Scheduler) → Facts s → (n : ℕ) → T (admittedAt s n) → (j : ℕ) → allotmentAt (withThread s n (wokenThread s (threadAt s n))) j ≡ allotmentAt s j
+pub woken-allotment : (s : Scheduler) → Facts s → (n : ℕ) → T (admittedAt s n) → (j : ℕ)
+    → allotmentAt (withThread s n (wokenThread s (threadAt s n))) j ≡ allotmentAt s j
 unfolding allotmentAt wokenThread
 woken-allotment s k n a j =
     by (λ b. eqb j n ≡ b → allotmentAt (withThread s n (wokenThread s (threadAt s n))) j ≡ allotmentAt s j) (eqb j n)

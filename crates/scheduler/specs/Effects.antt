@@ -1,16 +1,17 @@
--- "The list rule": what each accepted call does.
+-- RULE 2 and 3.5: what each accepted call does.
 use Prim.Native.Nat.{ℕ, _+_, _-_}
-use mathlib.Core.List.{List, [], _∷_, _++_}
+use mathlib.Core.List.{List, _∷_, _++_}
 use mathlib.Core.Bool.{Bool, cond, _||_}
 use lib.ListN.{drop, set, replicate}
 use lib.Dec.{leb, eqb}
 use Rattle.base.specs.Lists.{without, first, passed}
 use Rattle.scheduler.specs.declared.Thread.{Thread}
 use Rattle.scheduler.specs.declared.Scheduler.{Scheduler}
-use Rattle.scheduler.specs.State.{noThread, noGroup, stateOf, threadAt, runnableAt, quantum, listed, withThread, withGroup, withList, withRun}
+use Rattle.scheduler.specs.State.{noThread, noGroup, stateOf, threadAt, runnableAt, quantum, listed, withThread, withGroup, withList}
+use Rattle.scheduler.specs.State.{withRun}
 use Rattle.scheduler.specs.Refusals.{Call, openGroup, closeGroup, admit, remove, wake, dispatch, report}
 
--- "moves to the rear": the others keep their mutual order, and so does what stands past the list's end
+-- moved to the rear: the others keep their mutual order (RULE 2.10), and so does what stands past the list's end
 unfoldable pub rear : Scheduler → ℕ → List ℕ
 rear s n = without n (listed s) ++ n ∷ drop (s .count) (s .order)
 
@@ -21,11 +22,11 @@ toRear n s = withList s (rear s n) (s .count)
 unfoldable pub offList : ℕ → Scheduler → Scheduler
 offList n s = withList s (rear s n) (s .count - 1)
 
--- "goes to the rear"
+-- at the rear for the first time
 unfoldable pub join : ℕ → Scheduler → Scheduler
 join n s = withList s (set (s .order) (s .count) n) (s .count + 1)
 
--- "An admitted thread is runnable, has a full allotment"; its anchor is set
+-- RULE 2.3: runnable, with a full allotment; its anchor is set (RULE 4.2)
 unfoldable pub newThread : Scheduler → ℕ → ℕ → Thread
 newThread s g f = record {
   admission = s .meter;
@@ -38,7 +39,7 @@ newThread s g f = record {
   status = 1;
 }
 
--- "Wake makes a blocked thread runnable and changes neither place nor allotment"; its anchor is set
+-- RULE 2.8: runnable, with the allotment that it has; its anchor is set
 unfoldable pub wokenThread : Scheduler → Thread → Thread
 wokenThread s t = record {
   admission = t .admission;
@@ -51,13 +52,11 @@ wokenThread s t = record {
   status = 1;
 }
 
--- "If the allotment reaches 0 it is made full and the thread moves to the rear." "A yield fills the allotment and moves to the rear
--- once, also when nothing was left."
+-- RULE 2.6, 2.7: whether the allotment is made full and the thread moves to the rear: at a yield, or if nothing is left
 unfoldable pub renewed : ℕ → ℕ → Thread → Bool
 renewed reason used t = eqb reason 2 || leb (t .allotment) used
 
--- "A report charges the running thread the ticks used." Reasons: 0 tick, 1 block, 2 yield. "Its anchor is set .. at its own yield,
--- after that report's charge."
+-- RULE 2.5: the running thread after the charge. Reasons: 0 tick, 1 block, 2 yield, which sets the anchor after the charge.
 unfoldable pub chargedThread : Scheduler → ℕ → ℕ → Thread → Thread
 chargedThread s reason used t = record {
   admission = t .admission;
@@ -70,11 +69,11 @@ chargedThread s reason used t = record {
   status = cond (eqb reason 1) 2 1;
 }
 
--- "The meter is the sum of ticks in all accepted reports"; the report "ends its run"
+-- the charge goes to the meter (RULE 4.1), and the run ends
 unfoldable pub charged : ℕ → ℕ → ℕ → Scheduler → Scheduler
 charged r reason used s = withRun (withThread s r (chargedThread s reason used (threadAt s r))) 64 (s .meter + used)
 
--- "Exit takes the thread off the list and frees number and reservation"
+-- an exit takes the thread off the list and frees its entry
 unfoldable pub exited : ℕ → ℕ → Scheduler → Scheduler
 exited r used s = offList r (withRun (withThread s r noThread) 64 (s .meter + used))
 
@@ -83,7 +82,7 @@ reported r reason used s =
     cond (eqb reason 3) (exited r used s)
     (cond (renewed reason used (threadAt s r)) (toRear r (charged r reason used s)) (charged r reason used s))
 
--- "Dispatch takes the first runnable thread of the list": its number, or 64. "how many threads stood before it in the list"
+-- RULE 2.4: the first runnable thread of the list, or 64; and how many stand before it, or the length of the list
 unfoldable pub chosen : Scheduler → ℕ
 chosen s = first (runnableAt s) (listed s)
 
@@ -99,12 +98,12 @@ effect (wake n) s = withThread s n (wokenThread s (threadAt s n))
 effect dispatch s = withRun s (chosen s) (s .meter)
 effect (report reason used) s = reported (s .running) reason used s
 
--- an accepted start: group 0 is open with ceiling 1000, there are no threads, nothing runs, the meter is 0
+-- RULE 6.6: the state of an accepted start
 unfoldable pub started : ℕ → ℕ → Scheduler
 started m p =
     stateOf (replicate 64 noThread) (replicate 64 0) (record { ceiling = 1000; parent = 0; opened = 1 } ∷ replicate 15 noGroup) 0
     (record { thousandth = m; interval = p }) 0 64
 
--- what a refused start hands out: all zeros, which is not sound, so that every call on it answers 16
+-- and what a refused one hands out: all zeros
 unfoldable pub unstarted : Scheduler
 unstarted = stateOf (replicate 64 noThread) (replicate 64 0) (replicate 16 noGroup) 0 (record { thousandth = 0; interval = 0 }) 0 0

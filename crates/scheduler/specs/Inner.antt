@@ -1,17 +1,16 @@
 -- What private functions require and return, each over just what is handed to it. Nothing of the rule rests on it.
-use Prim.Native.Nat.{ℕ, _*_, _-_, _≤_, _<_}
+use Prim.Native.Nat.{ℕ, _≤_, _<_}
 use mathlib.Core.Path.{_≡_}
 use mathlib.Core.List.{List}
 use mathlib.Core.Bool.{Bool, true, false, not, _&&_, _||_}
 use lib.ListN.{getD}
-use lib.Dec.{T, ltb, leb, eqb}
-use Rattle.base.specs.Checks.{within}
+use lib.Dec.{T, ltb, eqb}
 use Rattle.base.specs.Lists.{member, distinct, everyOf, everyBelow}
 use Rattle.scheduler.specs.declared.Thread.{Thread}
 use Rattle.scheduler.specs.declared.Group.{Group}
 use Rattle.scheduler.specs.declared.Scheduler.{Scheduler}
-use Rattle.scheduler.specs.State.{admittedAt, runnableAt, openAt, listed}
-use Rattle.scheduler.specs.Sound.{threadOk, reservedIn, sound}
+use Rattle.scheduler.specs.State.{reservedAt, runnableAt, openAt, listed}
+use Rattle.scheduler.specs.Sound.{quotaOk, accountOk, threadOk, reservedIn, sound}
 
 -- the state s with these parts in place of its own
 abbrev pub given : Scheduler → List Thread → List Group → ℕ → ℕ → ℕ → Scheduler
@@ -29,16 +28,6 @@ abbrev pub having : Scheduler → List Group → Scheduler
 having s groups = given s (s .threads) groups (s .settings .thousandth) (s .meter) (s .running)
 
 -- the numbers of an admitted thread: its reservation and allotment, its account, its group
-abbrev pub quotaOk : ℕ → Thread → Bool
-quotaOk m t = within 1 1000 (t .reservation) && within 1 (t .reservation * m) (t .allotment)
-
-abbrev pub accountOk : ℕ → Thread → Bool
-accountOk meter t =
-    leb (t .admission) (t .anchor)
-    && leb (t .anchor) meter
-    && leb (t .ticks) (meter - t .admission)
-    && leb (t .since) (meter - t .anchor)
-
 abbrev pub boundsOk : ℕ → ℕ → Thread → Bool
 boundsOk m meter t = quotaOk m t && (accountOk meter t && ltb (t .group) 16)
 
@@ -51,9 +40,9 @@ pub record ListSeen (l : List ℕ) (ok : Bool) (seen : List Bool) : Type 0 where
   pub test : ok ≡ (everyOf (λ n. ltb n 64) l && distinct l)
   pub marks : ok ≡ true → Marks seen l
 
--- thread n passes its test, and stands in the list only if it is admitted
+-- thread n passes its test, and stands in the list only if it is reserved
 unfoldable pub entryOk : Scheduler → ℕ → Bool
-entryOk s n = threadOk s n && (admittedAt s n || not (member n (listed s)))
+entryOk s n = threadOk s n && (reservedAt s n || not (member n (listed s)))
 
 -- the reservations in each group, and their bound: at most 64 reservations
 abbrev pub Sums : Scheduler → List ℕ → Type 0

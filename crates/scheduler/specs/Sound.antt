@@ -1,18 +1,17 @@
--- "A state is sound when ..": the paragraph of that name, a line a condition.
--- Looked at are the admitted threads and the open groups only; what else an entry holds is free, and so is what stands past the
--- list's end. A flag or a number that has no meaning (a status above 2, an `opened` above 1, a running thread above 64, a count above
--- 64) makes the state unsound.
-use Prim.Native.Nat.{ℕ, _+_, _-_}
+-- RULE 5: when a state is sound, a line a condition. Looked at are the admitted threads and the open groups only (RULE 5.2); a flag or a
+-- number that has no meaning (a status above 2, an `opened` above 1, a running thread above 64, a count above 64) makes it unsound.
+use Prim.Native.Nat.{ℕ, _+_, _-_, _*_}
 use mathlib.Core.Bool.{Bool, not, cond, _&&_, _||_}
 use lib.ListN.{length}
 use lib.Dec.{ltb, leb, eqb}
 use Rattle.base.specs.Checks.{within}
 use Rattle.base.specs.Lists.{member, distinct, everyOf, everyBelow, sumBelow}
 use Rattle.scheduler.specs.declared.Settings.{Settings}
+use Rattle.scheduler.specs.declared.Thread.{Thread}
 use Rattle.scheduler.specs.declared.Scheduler.{Scheduler}
-use Rattle.scheduler.specs.State.{threadAt, groupAt, admittedAt, runnableAt, reservedAt, reservationAt, allotmentAt, openAt, quantum, listed}
+use Rattle.scheduler.specs.State.{threadAt, groupAt, admittedAt, runnableAt, reservedAt, reservationAt, openAt, listed}
 
--- "m, .. 1 to 1000", "P, .. 1 to 1,000,000 ticks"
+-- RULE 5.1, 1
 unfoldable pub settingsOk : Settings → Bool
 settingsOk k = within 1 1000 (k .thousandth) && within 1 1000000 (k .interval)
 
@@ -23,7 +22,7 @@ threadIn s g n = reservedAt s n && eqb ((threadAt s n) .group) g
 unfoldable pub childOf : Scheduler → ℕ → ℕ → Bool
 childOf s g c = openAt s c && ltb 0 c && eqb ((groupAt s c) .parent) g
 
--- "the reservations of its threads plus the ceilings of its child groups"
+-- RULE 3.3: the load, the reservations of a group's threads and the ceilings of its children
 unfoldable pub reservedIn : Scheduler → ℕ → ℕ
 reservedIn s g = sumBelow (λ n. cond (threadIn s g n) (reservationAt s n) 0) 64
 
@@ -33,7 +32,7 @@ ceilingsIn s g = sumBelow (λ c. cond (childOf s g c) ((groupAt s c) .ceiling) 0
 unfoldable pub load : Scheduler → ℕ → ℕ
 load s g = reservedIn s g + ceilingsIn s g
 
--- "Another group has an open parent of a lower number and a ceiling of 1 to 1000. In each group the [load is] at most its ceiling."
+-- RULE 5.1, 2 and 3
 unfoldable pub groupOk : Scheduler → ℕ → Bool
 groupOk s g =
     leb ((groupAt s g) .opened) 1
@@ -42,30 +41,33 @@ groupOk s g =
     && (eqb g 0 || (ltb ((groupAt s g) .parent) g && openAt s ((groupAt s g) .parent)))
     && leb (load s g) ((groupAt s g) .ceiling)))
 
--- "Group 0 is always open with ceiling 1000."
 unfoldable pub groupsOk : Scheduler → Bool
 groupsOk s = openAt s 0 && eqb ((groupAt s 0) .ceiling) 1000 && everyBelow (groupOk s) 16
 
--- "its allotment is between 1 and its quantum", "each thread's group is open", "the list holds the admitted threads", "each thread has
--- meter at admission ≤ meter at anchor ≤ meter, and its ticks since each of these are at most the meter's growth since"
+-- RULE 5.1, 4 and 8: a thread's own numbers, reservation and allotment, and its account against the meter
+abbrev pub quotaOk : ℕ → Thread → Bool
+quotaOk m t = within 1 1000 (t .reservation) && within 1 (t .reservation * m) (t .allotment)
+
+abbrev pub accountOk : ℕ → Thread → Bool
+accountOk meter t =
+    leb (t .admission) (t .anchor)
+    && leb (t .anchor) meter
+    && leb (t .ticks) (meter - t .admission)
+    && leb (t .since) (meter - t .anchor)
+
+-- A reserved thread stands in the list and has a quota and an open group; an admitted one has an account.
 unfoldable pub threadOk : Scheduler → ℕ → Bool
 threadOk s n =
     leb ((threadAt s n) .status) 2
-    && (not (admittedAt s n)
-    || (member n (listed s)
-    && within 1 1000 (reservationAt s n)
-    && openAt s ((threadAt s n) .group)
-    && within 1 (quantum s (reservationAt s n)) (allotmentAt s n)
-    && leb ((threadAt s n) .admission) ((threadAt s n) .anchor)
-    && leb ((threadAt s n) .anchor) (s .meter)
-    && leb ((threadAt s n) .ticks) (s .meter - (threadAt s n) .admission)
-    && leb ((threadAt s n) .since) (s .meter - (threadAt s n) .anchor)))
+    && (not (reservedAt s n)
+    || (member n (listed s) && quotaOk (s .settings .thousandth) (threadAt s n) && openAt s ((threadAt s n) .group)))
+    && (not (admittedAt s n) || accountOk (s .meter) (threadAt s n))
 
--- ".. once each", and nothing else
+-- RULE 5.1, 5: each once, and nothing else
 unfoldable pub listOk : Scheduler → Bool
 listOk s = leb (s .count) 64 && everyOf (λ n. ltb n 64 && reservedAt s n) (listed s) && distinct (listed s)
 
--- "a running thread is admitted and runnable", "below 10,000,000,000,000 while a thread runs"
+-- RULE 5.1, 6 and 7
 unfoldable pub runningOk : Scheduler → Bool
 runningOk s =
     eqb (s .running) 64
@@ -75,7 +77,6 @@ runningOk s =
 unfoldable pub shapeOk : Scheduler → Bool
 shapeOk s = eqb (length (s .threads)) 64 && eqb (length (s .groups)) 16 && eqb (length (s .order)) 64
 
--- "the meter is at most 10,000,000,000,000 + 1,000,000"
 unfoldable pub sound : Scheduler → Bool
 sound s =
     shapeOk s

@@ -1,5 +1,5 @@
--- The state, read by thread and group number, and written by thread, group, list and run.
--- Letters of the paper: m is `thousandth`, P is `interval`, f is `reservation`.
+-- RULE 1.5: the state, read by thread and group number, and written by thread, group, list and run. m is `thousandth`, P is `interval`,
+-- f is `reservation`.
 use Prim.Native.Nat.{ℕ, _*_, min}
 use mathlib.Core.List.{List}
 use mathlib.Core.Bool.{Bool, _&&_}
@@ -10,11 +10,11 @@ use Rattle.scheduler.specs.declared.Thread.{Thread}
 use Rattle.scheduler.specs.declared.Group.{Group}
 use Rattle.scheduler.specs.declared.Scheduler.{Scheduler}
 
--- "by default 100", "by default 20,000"
+-- RULE 1.4
 abbrev pub defaultSettings : Settings
 defaultSettings = record { thousandth = 100; interval = 20000 }
 
--- A freed entry is all zeros.
+-- RULE 1.6: a freed entry is all zeros.
 abbrev pub noThread : Thread
 noThread = record { admission = 0; anchor = 0; ticks = 0; since = 0; allotment = 0; reservation = 0; group = 0; status = 0 }
 
@@ -24,6 +24,10 @@ noGroup = record { ceiling = 0; parent = 0; opened = 0 }
 -- A thread's status: 0 free, 1 runnable, 2 blocked. A group's: 0 closed, 1 open.
 abbrev pub isAdmitted : Thread → Bool
 isAdmitted t = ltb 0 (t .status)
+
+-- It has a reservation in a group and stands in the list: here every admitted thread.
+abbrev pub isReserved : Thread → Bool
+isReserved t = isAdmitted t
 
 abbrev pub isRunnable : Thread → Bool
 isRunnable t = eqb (t .status) 1
@@ -49,9 +53,8 @@ runnableAt s n = isRunnable (threadAt s n)
 unfoldable pub blockedAt : Scheduler → ℕ → Bool
 blockedAt s n = isBlocked (threadAt s n)
 
--- it has a reservation in a group and stands in the list: here every admitted thread
-abbrev pub reservedAt : Scheduler → ℕ → Bool
-reservedAt s n = admittedAt s n
+unfoldable pub reservedAt : Scheduler → ℕ → Bool
+reservedAt s n = isReserved (threadAt s n)
 
 unfoldable pub reservationAt : Scheduler → ℕ → ℕ
 reservationAt s n = (threadAt s n) .reservation
@@ -62,15 +65,15 @@ allotmentAt s n = (threadAt s n) .allotment
 unfoldable pub openAt : Scheduler → ℕ → Bool
 openAt s n = ltb n 16 && isOpen (groupAt s n)
 
--- "A thread of reservation f has a quantum of f × m ticks"
+-- RULE 2.1
 abbrev pub quantum : Scheduler → ℕ → ℕ
 quantum s f = f * s .settings .thousandth
 
--- "One list": front first
+-- RULE 2.2: the list, front first
 unfoldable pub listed : Scheduler → List ℕ
 listed s = take (s .count) (s .order)
 
--- "Its slice is the smaller of its allotment and P."
+-- RULE 2.4: the smaller of its allotment and P
 unfoldable pub sliceAt : Scheduler → ℕ → ℕ
 sliceAt s n = min (allotmentAt s n) (s .settings .interval)
 

@@ -2,10 +2,10 @@
 -- counted in it, what is asked of its two threads, and the two limits.
 use Prim.Native.Nat.{ℕ, _+_, _-_, _*_, _≤_}
 use mathlib.Core.List.{List, [], _∷_}
-use mathlib.Core.Bool.{Bool, true, false, not, cond, _&&_, _||_}
+use mathlib.Core.Bool.{Bool, true, not, cond, _&&_, _||_}
 use lib.Dec.{T, eqb}
 use Rattle.scheduler.specs.declared.Scheduler.{Scheduler}
-use Rattle.scheduler.specs.State.{admittedAt, runnableAt, reservationAt}
+use Rattle.scheduler.specs.State.{runnableAt, reservedAt, reservationAt}
 use Rattle.scheduler.specs.Refusals.{Call, openGroup, closeGroup, admit, remove, wake, dispatch, report}
 use Rattle.scheduler.specs.Rule.{Reply, step, isDispatch}
 
@@ -80,13 +80,13 @@ keepsAdmitted y last c = keeps (λ r. not (eqb r 3)) y last c
 
 -- RULE 9.4: x stays runnable and does not yield
 pub record Protected (s : Scheduler) (cs : List Call) (x : ℕ) : Type 0 where
-  pub admitted : T (admittedAt s x)
+  pub reserved : T (reservedAt s x)
   pub runnable : T (runnableAt s x)
   pub keeps : T (throughout (keepsRunnable x) (s .running) (trace s cs))
 
 -- RULE 9.5: y is admitted throughout
 pub record Present (s : Scheduler) (cs : List Call) (y : ℕ) : Type 0 where
-  pub admitted : T (admittedAt s y)
+  pub reserved : T (reservedAt s y)
   pub keeps : T (throughout (keepsAdmitted y) (s .running) (trace s cs))
 
 -- RULE 9.6: what x is owed, and the limit on y beside it. f is `reservationAt s x`, g is `reservationAt s y`.

@@ -1,9 +1,11 @@
 //! Times of the static library beside those of the reference model.
 //!
-//!     bench               every row, as ratios (bench.sh)
-//!     bench one CALL N    each accepted case of a call N times (callgrind.sh)
-//!     bench journals      the program mtrrun beside the model's replay (after rt check mtrrun)
-//!     bench calls         the names that `bench one` takes
+//! ```text
+//! bench               every row, as ratios (bench.sh)
+//! bench one CALL N    each accepted case of a call N times (callgrind.sh)
+//! bench journals      the program mtrrun beside the model's replay (after rt check mtrrun)
+//! bench calls         the names that `bench one` takes
+//! ```
 
 mod cases;
 mod journals;

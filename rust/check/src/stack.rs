@@ -6,7 +6,8 @@
 
 use crate::compare::{to_library, to_library_record, to_model};
 use core::arch::asm;
-use model::random::{any_record, hostile_state, sound_state, Call as Made, Rng};
+use model::calls::Call as Made;
+use model::random::{any_record, hostile_state, sound_state, Rng};
 use mtr::raw::{self, Entry, Found, Records, Reply};
 use mtr::{Reason, Scheduler};
 

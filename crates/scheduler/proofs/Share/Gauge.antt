@@ -1,8 +1,8 @@
 -- The potential of the share guarantee on bare lists and numbers. The gauge is what stands before x in the list, blocked threads too,
 -- and the slice of a running thread that does not stand there. No call raises it, and a report by another thread lowers it by the
 -- ticks charged, whether the thread stays, moves to the rear or leaves.
-use Prim.Native.Nat.{ℕ, _+_, _-_, _*_, min, _≤_}
-use mathlib.Core.Path.{_≡_, refl, sym, ap, _∙_}
+use Prim.Native.Nat.{ℕ, _+_, _-_, _*_, _≤_}
+use mathlib.Core.Path.{_≡_, refl, ap, _∙_}
 use mathlib.Core.List.{List, [], _∷_, _++_}
 use mathlib.Core.Bool.{Bool, true, false, not, cond, _||_}
 use native.Mathlib.Omega.{arith}
@@ -11,17 +11,15 @@ use lib.Dec.{T, eqb}
 use borrow.Author.Tests.{eqb-true, ne-eqb}
 use Rattle.base.specs.Lists.{member, without}
 use Rattle.base.proofs.Bools.{by, is, clash}
-use Rattle.base.proofs.Lists.{sumOf, ahead, before, mask, ahead-snoc, before-snoc, ahead-stay, ahead-gone, before-without, member-without, ahead-rear, sumOf-le, without-none}
-use Rattle.scheduler.specs.State.{quantum}
-use Rattle.scheduler.specs.Effects.{rear, chosen}
-use Rattle.scheduler.specs.Rule.{step}
+use Rattle.base.proofs.Lists.{sumOf, ahead, before, mask, ahead-snoc, before-snoc, ahead-stay, ahead-gone, before-without, member-without}
+use Rattle.base.proofs.Lists.{ahead-rear, sumOf-le, without-none}
 use Rattle.scheduler.proofs.Facts.{fits}
 
 -- al: the allotments; l: the list; r: the running thread, or 64; v: its slice; sel: the threads that count
 unfoldable pub gauge : (ℕ → Bool) → ℕ → (ℕ → ℕ) → List ℕ → ℕ → ℕ → ℕ
 gauge sel x al l r v = ahead x (mask sel al) l + cond (eqb r 64 || before r x l) 0 (cond (sel r) v 0)
 
-cond-zero : (b : Bool) → cond {A = ℕ} b 0 0 ≡ 0
+pub cond-zero : (b : Bool) → cond {A = ℕ} b 0 0 ≡ 0
 cond-zero true = refl
 cond-zero false = refl
 
@@ -78,26 +76,31 @@ module _ (sel : ℕ → Bool) (x : ℕ) (off : sel x ≡ false) (v : ℕ) (l : L
           t
 
   -- another thread's run ends after t ticks. d is what it loses before x, if it stands there
-  module _ (al al′ : ℕ → ℕ) (r t : ℕ) (same : (k : ℕ) → (k ≡ r → ⊥) → al′ k ≡ al k) (other : r ≡ x → ⊥) (runs : r ≡ 64 → ⊥) (v′ : ℕ) (fits : t ≤ v) (less : t ≤ al r) where
+  module _ (al al′ : ℕ → ℕ) (r t : ℕ) (same : (k : ℕ) → (k ≡ r → ⊥) → al′ k ≡ al k) (other : r ≡ x → ⊥) (runs : r ≡ 64 → ⊥) (v′ : ℕ)
+      (fits : t ≤ v) (less : t ≤ al r) where
     -- what it lost is in what stood before x, or in what ran behind it
     covered : (A : ℕ) → A + cond (before r x l) (cond (sel r) t 0) 0 ≤ ahead x (mask sel al) l → A + cond (sel r) t 0 ≤ gauge sel x al l r v
     unfolding gauge
     covered A h =
         rw (ne-eqb r 64 runs)
-        ((elim (before r x l) as (λ b. A + cond b (cond (sel r) t 0) 0 ≤ ahead x (mask sel al) l → A + cond (sel r) t 0 ≤ ahead x (mask sel al) l + cond b 0 (cond (sel r) v 0))
+        ((elim (before r x l) as (λ b. A + cond b (cond (sel r) t 0) 0 ≤ ahead x (mask sel al) l → A + cond (sel r) t 0 ≤ ahead x
+        (mask sel al) l + cond b 0 (cond (sel r) v 0))
         [ true ↦ λ u. omega arith | false ↦ λ u. omega (arith, cond-le (sel r) t v fits) ])
         h)
 
     pub gauge-stay : al′ r + t ≤ al r → gauge sel x al′ l 64 v′ + cond (sel r) t 0 ≤ gauge sel x al l r v
     unfolding gauge
     gauge-stay stays =
-        let c = covered (ahead x (mask sel al′) l) (ahead-stay x r (cond (sel r) t 0) (mask sel al) (mask sel al′) (masked al al′ r same) (cond-add (sel r) (al′ r) t (al r) stays) l) in
+        let c =
+        covered (ahead x (mask sel al′) l) (ahead-stay x r (cond (sel r) t 0) (mask sel al) (mask sel al′) (masked al al′ r same)
+        (cond-add (sel r) (al′ r) t (al r) stays) l) in
         omega arith
 
     at-most : ahead x (mask sel al′) (without r l) + cond (before r x l) (cond (sel r) t 0) 0 ≤ ahead x (mask sel al) l
     at-most =
         let b = gone al al′ r same other in
-        let d : cond (before r x l) (cond (sel r) t 0) 0 ≤ cond (before r x l) (mask sel al r) 0 = cond-le (before r x l) (cond (sel r) t 0) (mask sel al r) (cond-le (sel r) t (al r) less) in
+        let d : cond (before r x l) (cond (sel r) t 0) 0 ≤ cond (before r x l) (mask sel al r) 0 =
+        cond-le (before r x l) (cond (sel r) t 0) (mask sel al r) (cond-le (sel r) t (al r) less) in
         omega arith
 
     pub gauge-off : gauge sel x al′ (without r l) 64 v′ + cond (sel r) t 0 ≤ gauge sel x al l r v
@@ -148,7 +151,8 @@ run-step f h q t G G′ a a′ e le =
     let k : q - a′ ≤ q - a + t = omega arith in
     omega (arith, mul-le-mul-left f le, mul-le-mul-left h k)
 
-pub turn-step : (f h m t G G′ a a′ : ℕ) → a′ ≡ f * m → t ≡ a → a ≤ f * m → G′ ≤ h * m → f * G′ + h * (f * m - a′) ≤ f * G + h * (f * m - a) + h * t
+pub turn-step : (f h m t G G′ a a′ : ℕ) → a′ ≡ f * m → t ≡ a → a ≤ f * m → G′ ≤ h * m
+    → f * G′ + h * (f * m - a′) ≤ f * G + h * (f * m - a) + h * t
 turn-step f h m t G G′ a a′ e u below le =
     let z : f * m - a′ ≡ 0 = omega arith in
     let k : f * m ≤ f * m - a + t = omega arith in

@@ -7,28 +7,18 @@ use mathlib.Core.Bool.{cond}
 use native.Mathlib.Omega.{arith}
 use lib.Dec.{T, eqb}
 use borrow.Author.Tests.{eqb-true}
-use Rattle.base.proofs.Bools.{by, and-l, and-r, is}
+use Rattle.base.proofs.Bools.{by, and-l, and-r}
 use Rattle.scheduler.specs.declared.Scheduler.{Scheduler}
-use Rattle.scheduler.specs.State.{threadAt, admittedAt, withThread, withGroup, withList, withRun}
-use Rattle.scheduler.specs.Refusals.{Call, openGroup, closeGroup, admit, remove, wake, dispatch, report, refusal}
-use Rattle.scheduler.specs.Effects.{toRear, offList, join, charged, exited, chosen, effect}
+use Rattle.scheduler.specs.State.{threadAt, admittedAt}
+use Rattle.scheduler.specs.Refusals.{Call, refusal}
+use Rattle.scheduler.specs.Effects.{chosen, effect}
 use Rattle.scheduler.specs.Rule.{Reply, isDispatch, accept, refuse, step}
-use Rattle.scheduler.specs.Stretch.{Event, trace, final, accepted, ticksOf, named, ticksIn, allTicks, ticksBy, anyone, throughout, keepsAdmitted, Present}
-use Rattle.scheduler.proofs.Passed.{reported-cases}
+use Rattle.scheduler.specs.Stretch.{Event, trace, final, accepted, named, ticksIn, allTicks, ticksBy, anyone, throughout}
+use Rattle.scheduler.specs.Stretch.{keepsAdmitted, Present}
+use Rattle.scheduler.proofs.Facts.{reserved-admitted}
+use Rattle.scheduler.proofs.Steps.{meter-step}
 use Rattle.scheduler.proofs.Share.Keep.{held, running-named}
 use Rattle.scheduler.proofs.Share.Stretch.{Attributed, events, replied}
-
--- an accepted call raises the meter by the ticks of its report
-meter-step : (c : Call) (s : Scheduler) → (effect c s) .meter ≡ s .meter + ticksOf c
-unfolding effect ticksOf withThread withGroup withList withRun offList join toRear charged exited
-meter-step (openGroup n p c) s = omega arith
-meter-step (closeGroup n) s = omega arith
-meter-step (admit n g f) s = omega arith
-meter-step (remove n) s = omega arith
-meter-step (wake n) s = omega arith
-meter-step dispatch s = omega arith
-meter-step (report reason used) s =
-    reported-cases (λ s′. s′ .meter ≡ s .meter + used) (s .running) reason used s (λ _. refl) (λ _. refl) (λ _. refl)
 
 -- W is the meter's growth over the stretch.
 pub meter-growth : (cs : List Call) (s : Scheduler) (last : ℕ) → s .meter + allTicks last (trace s cs) ≡ (final s cs) .meter
@@ -46,7 +36,8 @@ meter-growth (c ∷ cs) s last =
 -- S is the growth of the thread's own ticks, as long as it stays admitted.
 Counts : ℕ → ℕ → List Call → Scheduler → Scheduler → List Event → Type 0
 Counts y last cs s z es =
-    T (admittedAt s y) → T (throughout (keepsAdmitted y) last es) → (threadAt s y) .ticks + ticksIn (λ n. eqb n y) last es ≡ (threadAt z y) .ticks
+    T (admittedAt s y) → T (throughout (keepsAdmitted y) last es)
+    → (threadAt s y) .ticks + ticksIn (λ n. eqb n y) last es ≡ (threadAt z y) .ticks
 
 counts-accepted : (y last : ℕ) (c : Call) (cs : List Call) (s : Scheduler) → refusal c s ≡ 0 → Attributed last s
     → ((s : Scheduler) (last : ℕ) → Attributed last s → Counts y last cs s (final s cs) (trace s cs))
@@ -57,7 +48,12 @@ counts-accepted y last c cs s e at ih a t =
     let last′ = cond (isDispatch c) (cond (isDispatch c) (chosen s) 0) last in
     let keep = and-l (keepsAdmitted y last c) (throughout (keepsAdmitted y) last′ (trace s′ cs)) t in
     let h = held y last c s e at a keep in
-    omega (arith, h .counted, ih s′ last′ (running-named c s last at) (h .admitted a) (and-r (keepsAdmitted y last c) (throughout (keepsAdmitted y) last′ (trace s′ cs)) t))
+    omega (
+      arith,
+      h .counted,
+      ih s′ last′ (running-named c s last at) (h .admitted a)
+          (and-r (keepsAdmitted y last c) (throughout (keepsAdmitted y) last′ (trace s′ cs)) t),
+    )
 
 counts : (y : ℕ) (cs : List Call) (s : Scheduler) (last : ℕ) → Attributed last s → Counts y last cs s (final s cs) (trace s cs)
 unfolding Counts trace final throughout ticksIn named accepted step accept refuse
@@ -72,4 +68,4 @@ counts y (c ∷ cs) s last at =
 pub own-growth : (s : Scheduler) (cs : List Call) (y : ℕ) → Present s cs y
     → (threadAt s y) .ticks + ticksBy y (s .running) (trace s cs) ≡ (threadAt (final s cs) y) .ticks
 unfolding ticksBy Counts
-own-growth s cs y k = counts y cs s (s .running) (λ _. refl) (k .admitted) (k .keeps)
+own-growth s cs y k = counts y cs s (s .running) (λ _. refl) (reserved-admitted s y (k .reserved)) (k .keeps)

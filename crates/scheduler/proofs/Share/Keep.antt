@@ -1,8 +1,8 @@
 -- What an accepted call leaves as it was: the settings, an admitted thread's reservation, a runnable thread's state; and which thread
--- runs.
+-- runs. By cases on the call: it replaces one entry, and another thread's is read as before.
 use Prim.Native.Nat.{ℕ, _+_, _<_}
 use mathlib.Core.Path.{_≡_, refl, sym, ap, subst, _∙_}
-use mathlib.Core.Bool.{Bool, true, false, not, cond, _||_}
+use mathlib.Core.Bool.{true, false, not, cond, _||_}
 use native.Mathlib.Omega.{arith}
 use lib.ListN.{length}
 use lib.Dec.{T, ltb, eqb}
@@ -10,12 +10,15 @@ use borrow.Author.Tests.{eqb-true, eqb-false, ne-eqb, eq-eqb}
 use Rattle.base.proofs.Bools.{by, is, isn't, clash}
 use Rattle.scheduler.specs.declared.Thread.{Thread}
 use Rattle.scheduler.specs.declared.Scheduler.{Scheduler}
-use Rattle.scheduler.specs.State.{noThread, threadAt, admittedAt, runnableAt, reservationAt, withThread, withGroup, withList, withRun, isAdmitted, isRunnable}
+use Rattle.scheduler.specs.State.{noThread, threadAt, admittedAt, runnableAt, reservedAt, reservationAt, withThread, withGroup}
+use Rattle.scheduler.specs.State.{withList, withRun, isAdmitted, isReserved, isRunnable}
 use Rattle.scheduler.specs.Refusals.{Call, openGroup, closeGroup, admit, remove, wake, dispatch, report, refusal}
-use Rattle.scheduler.specs.Effects.{toRear, offList, join, newThread, wokenThread, chargedThread, charged, exited, reported, chosen, effect}
+use Rattle.scheduler.specs.Effects.{toRear, offList, join, newThread, wokenThread, chargedThread, charged, exited, reported, chosen}
+use Rattle.scheduler.specs.Effects.{effect}
 use Rattle.scheduler.specs.Rule.{isDispatch}
-use Rattle.scheduler.specs.Stretch.{keeps, ticksOf, named, keepsRunnable, keepsAdmitted}
+use Rattle.scheduler.specs.Stretch.{keeps, ticksOf, keepsRunnable, keepsAdmitted}
 use Rattle.scheduler.proofs.Facts.{facts, in-threads, thread-other, thread-same}
+use Rattle.scheduler.proofs.Share.Gauge.{cond-zero}
 use Rattle.scheduler.proofs.Passed.{passes, admit-passed, report-passed, reported-cases}
 
 pub settings-kept : (c : Call) (s : Scheduler) → (effect c s) .settings ≡ s .settings
@@ -27,7 +30,7 @@ settings-kept (remove n) s = refl
 settings-kept (wake n) s = refl
 settings-kept dispatch s = refl
 settings-kept (report reason used) s =
-    reported-cases (λ s′. s′ .settings ≡ s .settings) (s .running) reason used s (λ _. refl) (λ _. refl) (λ _. refl)
+    reported-cases (λ s′. s′ .settings ≡ s .settings) (s .running) reason used s (λ _. refl) (λ _ _. refl) (λ _ _. refl)
 
 -- the thread that runs is the one last named
 pub running-named : (c : Call) (s : Scheduler) (last : ℕ) → ((s .running ≡ 64 → ⊥) → s .running ≡ last)
@@ -41,93 +44,104 @@ running-named (wake n) s last h = h
 running-named dispatch s last h = λ _. refl
 running-named (report reason used) s last h =
     reported-cases (λ s′. (s′ .running ≡ 64 → ⊥) → s′ .running ≡ last) (s .running) reason used s
-    (λ _ u. absurd (u refl)) (λ _ u. absurd (u refl)) (λ _ u. absurd (u refl))
+    (λ _ u. absurd (u refl)) (λ _ _ u. absurd (u refl)) (λ _ _ u. absurd (u refl))
 
 -- an admitted thread y
 pub record Held (y last : ℕ) (c : Call) (s s′ : Scheduler) : Type 0 where
   pub admitted : T (admittedAt s y) → T (admittedAt s′ y)
-  pub reserved : reservationAt s′ y ≡ reservationAt s y
+  pub reserved : T (reservedAt s y) → T (reservedAt s′ y)
+  pub amount : reservationAt s′ y ≡ reservationAt s y
   pub runnable : T (keepsRunnable y last c) → T (runnableAt s y) → T (runnableAt s′ y)
   pub counted : (threadAt s′ y) .ticks ≡ (threadAt s y) .ticks + cond (eqb last y) (ticksOf c) 0
 
 -- y is another than the one that a report counts for, or the call is no report
-untouched : (y last : ℕ) (c : Call) (s s′ : Scheduler) → threadAt s′ y ≡ threadAt s y → cond (eqb last y) (ticksOf c) 0 ≡ 0 → Held y last c s s′
-unfolding admittedAt reservationAt runnableAt
+untouched : (y last : ℕ) (c : Call) (s s′ : Scheduler) → threadAt s′ y ≡ threadAt s y → cond (eqb last y) (ticksOf c) 0 ≡ 0
+    → Held y last c s s′
+unfolding admittedAt reservedAt reservationAt runnableAt
 untouched y last c s s′ e none = record {
   admitted = λ a. subst (λ (t : Thread). T (isAdmitted t)) (sym e) a;
-  reserved = ap (λ (t : Thread). t .reservation) e;
+  reserved = λ a. subst (λ (t : Thread). T (isReserved t)) (sym e) a;
+  amount = ap (λ (t : Thread). t .reservation) e;
   runnable = λ _ a. subst (λ (t : Thread). T (isRunnable t)) (sym e) a;
   counted = omega (arith, ap (λ (t : Thread). t .ticks) e, none);
 }
 
-no-ticks : (b : Bool) → cond {A = ℕ} b 0 0 ≡ 0
-no-ticks true = refl
-no-ticks false = refl
-
 held-woken : (y last : ℕ) (s : Scheduler) → y < length (s .threads) → Held y last (wake y) s (withThread s y (wokenThread s (threadAt s y)))
-unfolding admittedAt reservationAt runnableAt wokenThread ticksOf
+unfolding admittedAt reservedAt reservationAt runnableAt wokenThread ticksOf
 held-woken y last s h =
     let e = thread-same s y (wokenThread s (threadAt s y)) h in
     record {
       admitted = λ _. subst (λ (t : Thread). T (isAdmitted t)) (sym e) tt;
-      reserved = ap (λ (t : Thread). t .reservation) e;
+      reserved = λ _. subst (λ (t : Thread). T (isReserved t)) (sym e) tt;
+      amount = ap (λ (t : Thread). t .reservation) e;
       runnable = λ _ _. subst (λ (t : Thread). T (isRunnable t)) (sym e) tt;
-      counted = omega (arith, ap (λ (t : Thread). t .ticks) e, no-ticks (eqb last y));
+      counted = omega (arith, ap (λ (t : Thread). t .ticks) e, cond-zero (eqb last y));
     }
 
 -- y was charged, with a reason that is no exit
-held-charged : (y last reason used : ℕ) (s s′ : Scheduler) → last ≡ y → threadAt s′ y ≡ chargedThread s reason used (threadAt s y) → Held y last (report reason used) s s′
-unfolding admittedAt reservationAt runnableAt chargedThread keeps ticksOf
+held-charged : (y last reason used : ℕ) (s s′ : Scheduler) → last ≡ y → threadAt s′ y ≡ chargedThread s reason used (threadAt s y)
+    → Held y last (report reason used) s s′
+unfolding admittedAt reservedAt reservationAt runnableAt chargedThread keeps ticksOf
 held-charged y last reason used s s′ z e = record {
-  admitted = λ _. subst (λ (t : Thread). T (isAdmitted t)) (sym e) (elim (eqb reason 1) as (λ b. T (ltb 0 (cond b 2 1))) [ true ↦ tt | false ↦ tt ]);
-  reserved = ap (λ (t : Thread). t .reservation) e;
+  admitted = λ _. subst (λ (t : Thread). T (isAdmitted t)) (sym e) some;
+  reserved = λ _. subst (λ (t : Thread). T (isReserved t)) (sym e) some;
+  amount = ap (λ (t : Thread). t .reservation) e;
   runnable = λ q a. subst (λ (t : Thread). T (isRunnable t)) (sym e) (tick (rw (eq-eqb last y z) at q));
   counted = rw (eq-eqb last y z) (ap (λ (t : Thread). t .ticks) e);
 }
   where
+    some : T (ltb 0 (cond (eqb reason 1) 2 1))
+    some = elim (eqb reason 1) as (λ b. T (ltb 0 (cond b 2 1))) [ true ↦ tt | false ↦ tt ]
+
     tick : T (eqb reason 0) → T (eqb (cond (eqb reason 1) 2 1) 1)
     tick q = rw (eqb-true reason 0 (is (eqb reason 0) q)) tt
 
 -- a report: y runs
-held-own : (y last reason used : ℕ) (s : Scheduler) → y < length (s .threads) → last ≡ y → T (not (eqb reason 3)) → Held y last (report reason used) s (reported y reason used s)
+held-own : (y last reason used : ℕ) (s : Scheduler) → y < length (s .threads) → last ≡ y → T (not (eqb reason 3))
+    → Held y last (report reason used) s (reported y reason used s)
 unfolding withRun withList toRear charged
 held-own y last reason used s h z q =
     let t = chargedThread s reason used (threadAt s y) in
     reported-cases (Held y last (report reason used) s) y reason used s
-    (λ u. absurd (clash (eqb reason 3) (is (eqb reason 3) u) (isn't (eqb reason 3) q)))
-    (λ _. held-charged y last reason used s (toRear y (charged y reason used s)) z (thread-same s y t h))
-    (λ _. held-charged y last reason used s (charged y reason used s) z (thread-same s y t h))
+    (λ u. absurd (clash (eqb reason 3) u (isn't (eqb reason 3) q)))
+    (λ _ _. held-charged y last reason used s (toRear y (charged y reason used s)) z (thread-same s y t h))
+    (λ _ _. held-charged y last reason used s (charged y reason used s) z (thread-same s y t h))
 
 -- a report: another runs
-held-other : (y last r reason used : ℕ) (s : Scheduler) → (y ≡ r → ⊥) → r ≡ last → Held y last (report reason used) s (reported r reason used s)
+held-other : (y last r reason used : ℕ) (s : Scheduler) → (y ≡ r → ⊥) → r ≡ last
+    → Held y last (report reason used) s (reported r reason used s)
 unfolding withRun withList toRear charged exited offList ticksOf
 held-other y last r reason used s ne z =
     let t = chargedThread s reason used (threadAt s r) in
     let none : cond (eqb last y) used 0 ≡ 0 = rw (ne-eqb last y (λ w. ne (sym w ∙ sym z))) in
     reported-cases (Held y last (report reason used) s) r reason used s
     (λ _. untouched y last (report reason used) s (exited r used s) (thread-other s r noThread y ne) none)
-    (λ _. untouched y last (report reason used) s (toRear r (charged r reason used s)) (thread-other s r t y ne) none)
-    (λ _. untouched y last (report reason used) s (charged r reason used s) (thread-other s r t y ne) none)
+    (λ _ _. untouched y last (report reason used) s (toRear r (charged r reason used s)) (thread-other s r t y ne) none)
+    (λ _ _. untouched y last (report reason used) s (charged r reason used s) (thread-other s r t y ne) none)
 
-pub held : (y last : ℕ) (c : Call) (s : Scheduler) → refusal c s ≡ 0 → ((s .running ≡ 64 → ⊥) → s .running ≡ last) → T (admittedAt s y) → T (keepsAdmitted y last c)
+pub held : (y last : ℕ) (c : Call) (s : Scheduler) → refusal c s ≡ 0 → ((s .running ≡ 64 → ⊥) → s .running ≡ last) → T (admittedAt s y)
+    → T (keepsAdmitted y last c)
     → Held y last c s (effect c s)
 unfolding effect ticksOf keeps withGroup withList withRun join offList
-held y last (openGroup n p c) s e at a k = untouched y last (openGroup n p c) s (effect (openGroup n p c) s) refl (no-ticks (eqb last y))
-held y last (closeGroup n) s e at a k = untouched y last (closeGroup n) s (effect (closeGroup n) s) refl (no-ticks (eqb last y))
+held y last (openGroup n p c) s e at a k = untouched y last (openGroup n p c) s (effect (openGroup n p c) s) refl (cond-zero (eqb last y))
+held y last (closeGroup n) s e at a k = untouched y last (closeGroup n) s (effect (closeGroup n) s) refl (cond-zero (eqb last y))
 held y last (admit n g f) s e at a k =
     let c = admit-passed s n g f ((passes (admit n g f) s e) .1) in
     untouched y last (admit n g f) s (effect (admit n g f) s)
-    (thread-other s n (newThread s g f) y (λ z. clash (admittedAt s y) (is (admittedAt s y) a) (ap (admittedAt s) z ∙ c .1))) (no-ticks (eqb last y))
+    (thread-other s n (newThread s g f) y (λ z. clash (admittedAt s y) (is (admittedAt s y) a) (ap (admittedAt s) z ∙ c .1)))
+    (cond-zero (eqb last y))
 held y last (remove n) s e at a k =
-    untouched y last (remove n) s (effect (remove n) s) (thread-other s n noThread y (λ z. eqb-false n y (isn't (eqb n y) k) (sym z))) (no-ticks (eqb last y))
+    untouched y last (remove n) s (effect (remove n) s) (thread-other s n noThread y (λ z. eqb-false n y (isn't (eqb n y) k) (sym z)))
+    (cond-zero (eqb last y))
 held y last (wake n) s e at a k =
     by (λ b. eqb y n ≡ b → Held y last (wake n) s (withThread s n (wokenThread s (threadAt s n)))) (eqb y n)
     (λ q _.
     subst (λ (j : ℕ). Held y last (wake j) s (withThread s j (wokenThread s (threadAt s j)))) (eqb-true y n q)
     (held-woken y last s (in-threads s (facts s ((passes (wake n) s e) .0)) y a)))
-    (λ q _. untouched y last (wake n) s (effect (wake n) s) (thread-other s n (wokenThread s (threadAt s n)) y (eqb-false y n q)) (no-ticks (eqb last y)))
+    (λ q _. untouched y last (wake n) s (effect (wake n) s) (thread-other s n (wokenThread s (threadAt s n)) y (eqb-false y n q))
+    (cond-zero (eqb last y)))
     refl
-held y last dispatch s e at a k = untouched y last dispatch s (effect dispatch s) refl (no-ticks (eqb last y))
+held y last dispatch s e at a k = untouched y last dispatch s (effect dispatch s) refl (cond-zero (eqb last y))
 held y last (report reason used) s e at a k =
     let ok = passes (report reason used) s e in
     let is-last = at ((report-passed s reason used (ok .1)) .0) in

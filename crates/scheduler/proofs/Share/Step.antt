@@ -1,31 +1,32 @@
 -- One accepted call. The potential of x is f × (what may still run before x) + h × (what x used of its quantum); each accepted call
 -- charges those that count at most what the potential falls, and x's own ticks pay at the rate h.
-use Prim.Native.Nat.{ℕ, _+_, _-_, _*_, min, _≤_, _<_}
+use Prim.Native.Nat.{ℕ, _+_, _-_, _*_, _≤_, _<_}
 use mathlib.Core.Path.{_≡_, refl, sym, ap, subst, _∙_, fun-ext}
 use mathlib.Core.List.{List, [], _∷_, _++_}
-use mathlib.Core.Bool.{Bool, true, false, not, cond, _||_}
+use mathlib.Core.Bool.{Bool, true, false, not, cond, _||_, false≢true}
 use native.Mathlib.Omega.{arith}
 use native.Mathlib.Nat.{le-of-eq, min-le-left}
-use lib.ListN.{length}
-use lib.Dec.{T, leb, eqb}
-use borrow.Author.Tests.{eqb-true, eqb-false, leb-false, leb-true}
+use lib.Dec.{T, eqb}
+use borrow.Author.Tests.{eqb-true, eqb-false, leb-true}
 use Rattle.base.specs.Checks.{firstOf}
 use Rattle.base.specs.Lists.{member, without}
-use Rattle.base.proofs.Bools.{by, is, isn't, clash, or-false-r}
-use Rattle.base.proofs.Lists.{sumOf, before, mask, first-before}
+use Rattle.base.proofs.Bools.{by, is, isn't, clash}
+use Rattle.base.proofs.Lists.{sumOf, mask, first-before}
 use Rattle.scheduler.specs.declared.Settings.{Settings}
-use Rattle.scheduler.specs.declared.Thread.{Thread}
 use Rattle.scheduler.specs.declared.Group.{Group}
 use Rattle.scheduler.specs.declared.Scheduler.{Scheduler}
-use Rattle.scheduler.specs.State.{noThread, noGroup, threadAt, admittedAt, blockedAt, runnableAt, reservationAt, allotmentAt, listed, sliceAt, withThread, withGroup, withList, withRun}
+use Rattle.scheduler.specs.State.{noThread, noGroup, threadAt, admittedAt, blockedAt, runnableAt, reservedAt, reservationAt}
+use Rattle.scheduler.specs.State.{allotmentAt, listed, sliceAt, withThread, withGroup, withList, withRun}
 use Rattle.scheduler.specs.Refusals.{Call, openGroup, closeGroup, admit, remove, wake, dispatch, report, checks, refusal}
-use Rattle.scheduler.specs.Effects.{rear, toRear, offList, join, newThread, wokenThread, renewed, chargedThread, charged, exited, reported, chosen, effect}
-use Rattle.scheduler.specs.Rule.{step}
-use Rattle.scheduler.specs.Stretch.{keeps, accepted, ticksOf, keepsRunnable}
-use Rattle.scheduler.proofs.Facts.{Facts, facts, in-threads, member-admitted, below-quantum, fits, take-rear, take-off, room, listed-join, thread-other, thread-same, unlisted}
-use Rattle.scheduler.proofs.Share.Gauge.{gauge, gauge-join, gauge-leave, gauge-run, gauge-stay, gauge-off, gauge-rear, gauge-self, gauge-turn, quiet-step, run-step, turn-step}
+use Rattle.scheduler.specs.Effects.{rear, toRear, offList, join, newThread, renewed, chargedThread, charged, exited, reported, chosen}
+use Rattle.scheduler.specs.Effects.{effect}
+use Rattle.scheduler.specs.Stretch.{keeps, ticksOf, keepsRunnable}
+use Rattle.scheduler.proofs.Facts.{Facts, facts, reserved-admitted, admitted-reserved, in-threads, member-reserved, below-quantum}
+use Rattle.scheduler.proofs.Facts.{fits, take-rear, take-off, room, listed-join, unlisted}
+use Rattle.scheduler.proofs.Share.Gauge.{gauge, gauge-join, gauge-leave, gauge-run, gauge-stay, gauge-off, gauge-rear, gauge-self}
+use Rattle.scheduler.proofs.Share.Gauge.{gauge-turn, quiet-step, run-step, turn-step}
 use Rattle.scheduler.proofs.Steps.{allotment-other, slice-other, charged-left, charged-full, woken-allotment}
-use Rattle.scheduler.proofs.Passed.{passes, admit-passed, remove-passed, wake-passed, dispatch-passed, report-passed}
+use Rattle.scheduler.proofs.Passed.{passes, admit-passed, remove-passed, wake-passed, dispatch-passed, report-passed, reported-cases}
 
 -- the potential of x, with the threads that sel picks
 unfoldable pub weight : (ℕ → Bool) → ℕ → Scheduler → ℕ
@@ -44,8 +45,10 @@ pub quiet-potential : (f h : ℕ) (sel : ℕ → Bool) (x : ℕ) (s s′ : Sched
     → f * w + potential f h sel x s′ ≤ potential f h sel x s
 unfolding potential
 quiet-potential f h sel x s s′ w k =
-    subst (λ (z : Settings). f * w + (f * weight sel x s′ + h * (f * z .thousandth - allotmentAt s′ x)) ≤ potential f h sel x s) (sym (k .same-settings))
-    (quiet-step f h (f * s .settings .thousandth) w (weight sel x s) (weight sel x s′) (allotmentAt s x) (allotmentAt s′ x) (k .same-allotment) (k .lighter))
+    subst (λ (z : Settings). f * w + (f * weight sel x s′ + h * (f * z .thousandth - allotmentAt s′ x)) ≤ potential f h sel x s)
+    (sym (k .same-settings))
+    (quiet-step f h (f * s .settings .thousandth) w (weight sel x s) (weight sel x s′) (allotmentAt s x) (allotmentAt s′ x)
+    (k .same-allotment) (k .lighter))
 
 group-quiet : (sel : ℕ → Bool) (x : ℕ) (s : Scheduler) (n : ℕ) (g : Group) → Quiet sel x s (withGroup s n g) 0
 unfolding withGroup weight listed allotmentAt sliceAt
@@ -59,9 +62,12 @@ wake-quiet sel x s k n a = record {
   lighter = rw (fun-ext (woken-allotment s k n a)) (omega arith);
 }
 
-module _ (sel : ℕ → Bool) (x : ℕ) (off : sel x ≡ false) (s : Scheduler) (k : Facts s) (adm : T (admittedAt s x)) where
+module _ (sel : ℕ → Bool) (x : ℕ) (off : sel x ≡ false) (s : Scheduler) (k : Facts s) (own : T (reservedAt s x)) where
   x-in : T (member x (listed s))
-  x-in = (k .thread x adm) .in-list
+  x-in = (k .thread x own) .in-list
+
+  adm : T (admittedAt s x)
+  adm = reserved-admitted s x own
 
   -- a thread that is not admitted is another one, does not run and is not in the list
   fresh-x : (n : ℕ) → admittedAt s n ≡ false → n ≡ x → ⊥
@@ -88,7 +94,8 @@ module _ (sel : ℕ → Bool) (x : ℕ) (off : sel x ≡ false) (s : Scheduler) 
             (sym (slice-other s n t (s .running) (λ z. fresh-run n small e (sym z))))
             (omega (
               arith,
-              gauge-join sel x off (sliceAt s (s .running)) (listed s) x-in (allotmentAt s) (allotmentAt at) (s .running) n same
+              gauge-join sel x off (sliceAt s (s .running)) (listed s) x-in (allotmentAt s) (allotmentAt at) (s .running) n
+                  same
                   (fresh-run n small e) (fresh-x n e) (unlisted s k n e),
             )));
       }
@@ -98,7 +105,7 @@ module _ (sel : ℕ → Bool) (x : ℕ) (off : sel x ≡ false) (s : Scheduler) 
   remove-quiet n a ar ax =
       let at = withThread s n noThread in
       let same : (j : ℕ) → (j ≡ n → ⊥) → allotmentAt at j ≡ allotmentAt s j = allotment-other s n noThread in
-      let l = take-off (s .order) (s .count) n (fits s k) (k .once) ((k .thread n a) .in-list) in
+      let l = take-off (s .order) (s .count) n (fits s k) (k .once) ((k .thread n (admitted-reserved s n a)) .in-list) in
       record {
         same-settings = refl;
         same-allotment = same x (λ z. ax (sym z));
@@ -106,7 +113,11 @@ module _ (sel : ℕ → Bool) (x : ℕ) (off : sel x ≡ false) (s : Scheduler) 
             subst (λ (z : List ℕ). gauge sel x (allotmentAt at) z (s .running) (sliceAt at (s .running)) + 0 ≤ weight sel x s) (sym l)
             (subst (λ (v : ℕ). gauge sel x (allotmentAt at) (without n (listed s)) (s .running) v + 0 ≤ weight sel x s)
             (sym (slice-other s n noThread (s .running) (λ z. ar (sym z))))
-            (omega (arith, gauge-leave sel x off (sliceAt s (s .running)) (listed s) x-in (allotmentAt s) (allotmentAt at) (s .running) n same ar ax)));
+            (omega (
+              arith,
+              gauge-leave sel x off (sliceAt s (s .running)) (listed s) x-in (allotmentAt s) (allotmentAt at) (s .running) n
+                  same ar ax,
+            )));
       }
 
   dispatch-quiet : T (runnableAt s x) → s .running ≡ 64 → Quiet sel x s (effect dispatch s) 0
@@ -130,7 +141,7 @@ module _ (sel : ℕ → Bool) (x : ℕ) (off : sel x ≡ false) (s : Scheduler) 
     r-adm = subst (λ (j : ℕ). T (admittedAt s j)) is-r ((k .run (λ z. runs (sym is-r ∙ z))) .admitted)
 
     r-in : T (member r (listed s))
-    r-in = (k .thread r r-adm) .in-list
+    r-in = (k .thread r (admitted-reserved s r r-adm)) .in-list
 
     -- the weight before the report, with r by name
     weight-r : weight sel x s ≡ gauge sel x (allotmentAt s) (listed s) r (sliceAt s r)
@@ -188,19 +199,15 @@ module _ (sel : ℕ → Bool) (x : ℕ) (off : sel x ≡ false) (s : Scheduler) 
 
     -- every way a report by another thread can end
     report-quiet : Quiet sel x s (reported r reason used s) (cond (sel r) used 0)
-    unfolding reported
     report-quiet =
-        by (λ b. Quiet sel x s (cond b (exited r used s) (cond (renewed reason used (threadAt s r)) (toRear r (charged r reason used s)) (charged r reason used s))) (cond (sel r) used 0)) (eqb reason 3)
-        (λ _. exit-quiet)
-        (λ _. by (λ b. renewed reason used (threadAt s r) ≡ b → Quiet sel x s (cond b (toRear r (charged r reason used s)) (charged r reason used s)) (cond (sel r) used 0)) (renewed reason used (threadAt s r))
-        (λ _ _. rear-quiet)
-        (λ e _. stay-quiet e)
-        refl)
+        reported-cases (λ s′. Quiet sel x s s′ (cond (sel r) used 0)) r reason used s (λ _. exit-quiet) (λ _ _. rear-quiet)
+        (λ _ e. stay-quiet e)
 
   -- a report by x, with reason 0
-  module _ (f h : ℕ) (is-x : s .running ≡ x) (is-f : reservationAt s x ≡ f) (sum : sumOf (mask sel (reservationAt s)) (listed s) ≤ h) (used : ℕ) (fit : used ≤ sliceAt s x) where
+  module _ (f h : ℕ) (is-x : s .running ≡ x) (is-f : reservationAt s x ≡ f) (sum : sumOf (mask sel (reservationAt s)) (listed s) ≤ h)
+      (used : ℕ) (fit : used ≤ sliceAt s x) where
     bound : allotmentAt s x ≤ f * s .settings .thousandth
-    bound = subst (λ (j : ℕ). allotmentAt s x ≤ j * s .settings .thousandth) is-f (below-quantum s k x adm)
+    bound = subst (λ (j : ℕ). allotmentAt s x ≤ j * s .settings .thousandth) is-f (below-quantum s k x own)
 
     weight-x : weight sel x s ≡ gauge sel x (allotmentAt s) (listed s) x (sliceAt s x)
     unfolding weight
@@ -220,12 +227,14 @@ module _ (sel : ℕ → Bool) (x : ℕ) (off : sel x ≡ false) (s : Scheduler) 
     -- the whole allotment was used
     used-up : renewed 0 used (threadAt s x) ≡ true → used ≡ allotmentAt s x
     unfolding renewed allotmentAt sliceAt
-    used-up e = omega (arith, leb-true ((threadAt s x) .allotment) used e, min-le-left ((threadAt s x) .allotment) (s .settings .interval), fit)
+    used-up e =
+        omega (arith, leb-true ((threadAt s x) .allotment) used e, min-le-left ((threadAt s x) .allotment) (s .settings .interval), fit)
 
     each : (n : ℕ) → T (member n (listed s)) → allotmentAt s n ≤ reservationAt s n * s .settings .thousandth
-    each n u = below-quantum s k n (member-admitted s k n u)
+    each n u = below-quantum s k n (member-reserved s k n u)
 
-    self-turn : renewed 0 used (threadAt s x) ≡ true → potential f h sel x (toRear x (charged x 0 used s)) ≤ potential f h sel x s + h * used
+    self-turn : renewed 0 used (threadAt s x) ≡ true
+        → potential f h sel x (toRear x (charged x 0 used s)) ≤ potential f h sel x s + h * used
     unfolding weight potential toRear charged withList withRun withThread listed rear allotmentAt sliceAt
     self-turn e =
         let t = chargedThread s 0 used (threadAt s x) in
@@ -243,12 +252,9 @@ module _ (sel : ℕ → Bool) (x : ℕ) (off : sel x ≡ false) (s : Scheduler) 
         (s .settings .thousandth) h each sum))
 
     self-report : potential f h sel x (reported x 0 used s) ≤ potential f h sel x s + h * used
-    unfolding reported
     self-report =
-        by (λ b. renewed 0 used (threadAt s x) ≡ b → potential f h sel x (cond b (toRear x (charged x 0 used s)) (charged x 0 used s)) ≤ potential f h sel x s + h * used) (renewed 0 used (threadAt s x))
-        (λ e _. self-turn e)
-        (λ e _. self-stay e)
-        refl
+        reported-cases (λ s′. potential f h sel x s′ ≤ potential f h sel x s + h * used) x 0 used s
+        (λ e. absurd (false≢true e)) (λ _ e. self-turn e) (λ _ e. self-stay e)
 
 -- The bound of one accepted call.
 
@@ -266,11 +272,12 @@ quiet-bound f h sel x s s′ last q =
 
 -- x is protected in the state
 pub record Guarded (f : ℕ) (x : ℕ) (s : Scheduler) : Type 0 where
-  pub admitted : T (admittedAt s x)
+  pub reserved : T (reservedAt s x)
   pub runnable : T (runnableAt s x)
-  pub reserved : reservationAt s x ≡ f
+  pub amount : reservationAt s x ≡ f
 
-module _ (f h : ℕ) (sel : ℕ → Bool) (x : ℕ) (off : sel x ≡ false) (s : Scheduler) (last : ℕ) (attributed : (s .running ≡ 64 → ⊥) → s .running ≡ last)
+module _ (f h : ℕ) (sel : ℕ → Bool) (x : ℕ) (off : sel x ≡ false) (s : Scheduler) (last : ℕ)
+    (attributed : (s .running ≡ 64 → ⊥) → s .running ≡ last)
     (guard : Guarded f x s) (sum : sumOf (mask sel (reservationAt s)) (listed s) ≤ h) where
   report-bound : (reason used : ℕ) → Facts s → firstOf (checks (report reason used) s) ≡ 0 → T (keepsRunnable x last (report reason used))
       → StepBound f h sel x s (reported (s .running) reason used s) last used
@@ -280,39 +287,46 @@ module _ (f h : ℕ) (sel : ℕ → Bool) (x : ℕ) (off : sel x ≡ false) (s :
       let runs = ok .0 in
       let fit = ok .1 in
       let is-last = attributed runs in
-      by (λ b. T (not b || eqb reason 0) → eqb last x ≡ b → f * cond (sel last) used 0 + potential f h sel x (reported (s .running) reason used s) ≤ potential f h sel x s + h * cond b used 0) (eqb last x)
+      by (λ b. T (not b || eqb reason 0) → eqb last x ≡ b → f * cond (sel last) used 0 + potential f h sel x
+      (reported (s .running) reason used s) ≤ potential f h sel x s + h * cond b used 0) (eqb last x)
       (λ q u _.
       let is-x : s .running ≡ x = is-last ∙ eqb-true last x q in
       let off′ : sel last ≡ false = ap sel (eqb-true last x q) ∙ off in
       let z : reason ≡ 0 = eqb-true reason 0 (is (eqb reason 0) u) in
-      let b = self-report sel x off s k (guard .admitted) f h is-x (guard .reserved) sum used (subst (λ (j : ℕ). used ≤ sliceAt s j) is-x fit) in
+      let b =
+      self-report sel x off s k (guard .reserved) f h is-x (guard .amount) sum used (subst (λ (j : ℕ). used ≤ sliceAt s j) is-x fit) in
       rw off′ (subst (λ (j : ℕ). f * 0 + potential f h sel x (reported j reason used s) ≤ potential f h sel x s + h * used) (sym is-x)
       (subst (λ (j : ℕ). f * 0 + potential f h sel x (reported x j used s) ≤ potential f h sel x s + h * used) (sym z) (omega arith))))
       (λ q u _.
       let ne : s .running ≡ x → ⊥ = λ w. eqb-false last x q (sym is-last ∙ w) in
-      let b = quiet-potential f h sel x s (reported (s .running) reason used s) (cond (sel (s .running)) used 0) (report-quiet sel x off s k (guard .admitted) (s .running) refl runs ne reason used fit) in
+      let b =
+      quiet-potential f h sel x s (reported (s .running) reason used s) (cond (sel (s .running)) used 0)
+      (report-quiet sel x off s k (guard .reserved) (s .running) refl runs ne reason used fit) in
       rw (← is-last) (omega arith))
       keep
       refl
 
   pub step-bound : (c : Call) → refusal c s ≡ 0 → T (keepsRunnable x last c) → StepBound f h sel x s (effect c s) last (ticksOf c)
   unfolding effect checks keeps ticksOf
-  step-bound (openGroup n p c) e keep = quiet-bound f h sel x s (effect (openGroup n p c) s) last (group-quiet sel x s n (record { ceiling = c; parent = p; opened = 1 }))
+  step-bound (openGroup n p c) e keep =
+      quiet-bound f h sel x s (effect (openGroup n p c) s) last (group-quiet sel x s n (record { ceiling = c; parent = p; opened = 1 }))
   step-bound (closeGroup n) e keep = quiet-bound f h sel x s (effect (closeGroup n) s) last (group-quiet sel x s n noGroup)
   step-bound (admit n g d) e keep =
       let ok = passes (admit n g d) s e in
       let c = admit-passed s n g d (ok .1) in
-      quiet-bound f h sel x s (effect (admit n g d) s) last (admit-quiet sel x off s (facts s (ok .0)) (guard .admitted) n g d (c .0) (c .1))
+      quiet-bound f h sel x s (effect (admit n g d) s) last (admit-quiet sel x off s (facts s (ok .0)) (guard .reserved) n g d (c .0)
+      (c .1))
   step-bound (remove n) e keep =
       let ok = passes (remove n) s e in
       let c = remove-passed s n (ok .1) in
       quiet-bound f h sel x s (effect (remove n) s) last
-      (remove-quiet sel x off s (facts s (ok .0)) (guard .admitted) n (c .0) (c .1) (eqb-false n x (isn't (eqb n x) keep)))
+      (remove-quiet sel x off s (facts s (ok .0)) (guard .reserved) n (c .0) (c .1) (eqb-false n x (isn't (eqb n x) keep)))
   step-bound (wake n) e keep =
       let ok = passes (wake n) s e in
       quiet-bound f h sel x s (effect (wake n) s) last (wake-quiet sel x s (facts s (ok .0)) n (wake-passed s n (ok .1)))
   step-bound dispatch e keep =
       let ok = passes dispatch s e in
       quiet-bound f h sel x s (effect dispatch s) last
-      (dispatch-quiet sel x off s (facts s (ok .0)) (guard .admitted) (guard .runnable) (dispatch-passed s (ok .1)))
-  step-bound (report reason used) e keep = report-bound reason used (facts s ((passes (report reason used) s e) .0)) ((passes (report reason used) s e) .1) keep
+      (dispatch-quiet sel x off s (facts s (ok .0)) (guard .reserved) (guard .runnable) (dispatch-passed s (ok .1)))
+  step-bound (report reason used) e keep =
+      report-bound reason used (facts s ((passes (report reason used) s e) .0)) ((passes (report reason used) s e) .1) keep

@@ -7,22 +7,24 @@ use mathlib.Core.Bool.{Bool, false, cond}
 use native.Mathlib.Omega.{arith}
 use lib.Dec.{T, eqb}
 use borrow.Author.Tests.{eqb-true}
-use Rattle.base.proofs.Bools.{by, and-l, and-r, is}
+use Rattle.base.proofs.Bools.{by, and-l, and-r}
 use Rattle.base.proofs.Lists.{sumOf, mask}
 use Rattle.scheduler.specs.declared.Scheduler.{Scheduler}
-use Rattle.scheduler.specs.State.{admittedAt, reservationAt, listed}
+use Rattle.scheduler.specs.State.{reservedAt, reservationAt, listed}
 use Rattle.scheduler.specs.Sound.{sound}
-use Rattle.scheduler.specs.Refusals.{Call, report, refusal}
+use Rattle.scheduler.specs.Refusals.{Call, refusal}
 use Rattle.scheduler.specs.Effects.{chosen, effect}
 use Rattle.scheduler.specs.Rule.{Reply, isDispatch, accept, refuse, step}
 use Rattle.scheduler.specs.Stretch.{Event, trace, final, accepted, ticksOf, named, ticksIn, throughout, keepsRunnable, keepsAdmitted}
+use Rattle.scheduler.proofs.Facts.{reserved-admitted}
 use Rattle.scheduler.proofs.Passed.{passes}
 use Rattle.scheduler.proofs.Share.Step.{potential, Guarded, StepBound, step-bound}
 use Rattle.scheduler.proofs.Share.Keep.{Held, held, running-named, runnable-admitted}
 
+-- y has a reservation of g
 pub record Reserved (g y : ℕ) (s : Scheduler) : Type 0 where
-  pub admitted : T (admittedAt s y)
-  pub reserved : reservationAt s y ≡ g
+  pub reserved : T (reservedAt s y)
+  pub amount : reservationAt s y ≡ g
 
 -- the thread that a report counts for is the one that runs
 abbrev pub Attributed : ℕ → Scheduler → Type 0
@@ -54,18 +56,21 @@ module _ (f g h : ℕ) (sel : ℕ → Bool) (x y : ℕ) (off : sel x ≡ false)
   next : ℕ → Call → Scheduler → ℕ
   next last c s = cond (isDispatch c) (cond (isDispatch c) (chosen s) 0) last
 
-  guarded : (s : Scheduler) (last : ℕ) (c : Call) → Guarded f x s → T (keepsRunnable x last c) → Held x last c s (effect c s) → Guarded f x (effect c s)
+  guarded : (s : Scheduler) (last : ℕ) (c : Call) → Guarded f x s → T (keepsRunnable x last c) → Held x last c s (effect c s)
+      → Guarded f x (effect c s)
   guarded s last c k q u = record {
-    admitted = u .admitted (k .admitted);
+    reserved = u .reserved (k .reserved);
     runnable = u .runnable q (k .runnable);
-    reserved = u .reserved ∙ k .reserved;
+    amount = u .amount ∙ k .amount;
   }
 
   still-reserved : (s : Scheduler) (last : ℕ) (c : Call) → Reserved g y s → Held y last c s (effect c s) → Reserved g y (effect c s)
-  still-reserved s last c k u = record { admitted = u .admitted (k .admitted); reserved = u .reserved ∙ k .reserved }
+  still-reserved s last c k u = record { reserved = u .reserved (k .reserved); amount = u .amount ∙ k .amount }
 
-  accepted-bound : (s : Scheduler) (last : ℕ) (c : Call) (cs : List Call) → refusal c s ≡ 0 → Attributed last s → Guarded f x s → Reserved g y s
-      → ((s : Scheduler) (last : ℕ) → Attributed last s → Guarded f x s → Reserved g y s → Bound f h sel x y s (final s cs) last (trace s cs))
+  accepted-bound : (s : Scheduler) (last : ℕ) (c : Call) (cs : List Call) → refusal c s ≡ 0 → Attributed last s → Guarded f x s
+      → Reserved g y s
+      → ((s : Scheduler) (last : ℕ) → Attributed last s → Guarded f x s → Reserved g y s → Bound f h sel x y s (final s cs) last
+      (trace s cs))
       → Bound f h sel x y s (final (effect c s) cs) last (events c cs s (accept c s))
   unfolding Bound throughout ticksIn named accepted accept next StepBound
   accepted-bound s last c cs e at k r ih a b =
@@ -76,12 +81,15 @@ module _ (f g h : ℕ) (sel : ℕ → Bool) (x y : ℕ) (off : sel x ≡ false)
       let sum = sum-of s ((passes c s e) .0) k r in
       let one : f * cond (sel last) (ticksOf c) 0 + potential f h sel x s′ ≤ potential f h sel x s + h * cond (eqb last x) (ticksOf c) 0 =
       step-bound f h sel x off s last at k sum c e keep in
-      let rest = ih s′ last′ (running-named c s last at) (guarded s last c k keep (held x last c s e at (k .admitted) (runnable-admitted x last c keep))) (still-reserved s last c r (held y last c s e at (r .admitted) stays))
+      let of-x = held x last c s e at (reserved-admitted s x (k .reserved)) (runnable-admitted x last c keep) in
+      let of-y = held y last c s e at (reserved-admitted s y (r .reserved)) stays in
+      let rest = ih s′ last′ (running-named c s last at) (guarded s last c k keep of-x) (still-reserved s last c r of-y)
       (and-r (keepsRunnable x last c) (throughout (keepsRunnable x) last′ (trace s′ cs)) a)
       (and-r (keepsAdmitted y last c) (throughout (keepsAdmitted y) last′ (trace s′ cs)) b) in
       omega (arith, one, rest)
 
-  pub stretch : (cs : List Call) (s : Scheduler) (last : ℕ) → Attributed last s → Guarded f x s → Reserved g y s → Bound f h sel x y s (final s cs) last (trace s cs)
+  pub stretch : (cs : List Call) (s : Scheduler) (last : ℕ) → Attributed last s → Guarded f x s → Reserved g y s
+      → Bound f h sel x y s (final s cs) last (trace s cs)
   unfolding trace final step Bound ticksIn accept refuse
   stretch [] s last at k r = λ a b. omega arith
   stretch (c ∷ cs) s last at k r =

@@ -16,17 +16,14 @@ use Rattle.scheduler.specs.declared.Settings.{Settings}
 use Rattle.scheduler.specs.declared.Thread.{Thread}
 use Rattle.scheduler.specs.declared.Group.{Group}
 use Rattle.scheduler.specs.declared.Scheduler.{Scheduler}
-use Rattle.scheduler.specs.State.{noThread, noGroup, threadAt, groupAt, admittedAt, reservationAt, openAt, listed, isAdmitted, isOpen}
+use Rattle.scheduler.specs.State.{noThread, noGroup, threadAt, groupAt, admittedAt, reservedAt, reservationAt, openAt, listed}
+use Rattle.scheduler.specs.State.{isAdmitted, isReserved, isOpen}
 use Rattle.scheduler.specs.Sound.{settingsOk, load, threadIn, childOf, reservedIn, ceilingsIn}
 use Rattle.scheduler.specs.Effects.{charged}
-use Rattle.scheduler.proofs.Facts.{Fit, ThreadFacts, GroupFacts, RunFacts, Facts, carries}
+use Rattle.scheduler.proofs.Facts.{Fit, Account, ThreadFacts, GroupFacts, RunFacts, Facts, carries}
 
-pub fit-later : (t : Thread) (m meter meter′ : ℕ) → meter ≤ meter′ → Fit t m meter → Fit t m meter′
-fit-later t m meter meter′ le k = record {
-  positive = k .positive;
-  at-most = k .at-most;
-  some = k .some;
-  bounded = k .bounded;
+pub account-later : (t : Thread) (meter meter′ : ℕ) → meter ≤ meter′ → Account t meter → Account t meter′
+account-later t meter meter′ le k = record {
   anchored = k .anchored;
   past = omega (arith, k .past);
   charged = omega (arith, k .charged);
@@ -35,7 +32,7 @@ fit-later t m meter meter′ le k = record {
 
 -- what a thread adds to the load of group g
 abbrev pub shareOf : Thread → ℕ → ℕ
-shareOf t g = cond (isAdmitted t && eqb (t .group) g) (t .reservation) 0
+shareOf t g = cond (isReserved t && eqb (t .group) g) (t .reservation) 0
 
 pub record Changed (s : Scheduler) (n : ℕ) (t : Thread) (s′ : Scheduler) : Type 0 where
   pub threads : s′ .threads ≡ set (s .threads) n t
@@ -45,12 +42,13 @@ pub record Changed (s : Scheduler) (n : ℕ) (t : Thread) (s′ : Scheduler) : T
   pub meter-most : s′ .meter ≤ 10000001000000
   pub order64 : length (s′ .order) ≡ 64
   pub count64 : s′ .count ≤ 64
-  pub members : T (everyOf (λ n. ltb n 64 && admittedAt s′ n) (listed s′))
+  pub members : T (everyOf (λ n. ltb n 64 && reservedAt s′ n) (listed s′))
   pub once : T (distinct (listed s′))
   pub others : (j : ℕ) → (j ≡ n → ⊥) → T (member j (listed s)) → T (member j (listed s′))
-  pub own-list : T (isAdmitted t) → T (member n (listed s′))
-  pub own-group : T (isAdmitted t) → T (openAt s (t .group))
-  pub own-fit : T (isAdmitted t) → Fit t (s .settings .thousandth) (s′ .meter)
+  pub own-list : T (isReserved t) → T (member n (listed s′))
+  pub own-group : T (isReserved t) → T (openAt s (t .group))
+  pub own-fit : T (isReserved t) → Fit t (s .settings .thousandth)
+  pub own-account : T (isAdmitted t) → Account t (s′ .meter)
   pub own-status : t .status ≤ 2
   pub room : (g : ℕ) → T (openAt s g) → load s g + shareOf t g ≤ (groupAt s g) .ceiling + shareOf (threadAt s n) g
   pub run : (s′ .running ≡ 64 → ⊥) → RunFacts s′
@@ -73,39 +71,67 @@ module _ (s : Scheduler) (k : Facts s) (n : ℕ) (small : n < 64) (t : Thread) (
   opens g o = subst T (sym (open-same g)) o
 
   -- the other threads
-  other-facts : (j : ℕ) → (j ≡ n → ⊥) → T (admittedAt s′ j) → ThreadFacts s′ j
-  unfolding admittedAt
+  other-facts : (j : ℕ) → (j ≡ n → ⊥) → T (reservedAt s′ j) → ThreadFacts s′ j
+  unfolding reservedAt
   other-facts j ne a =
       let e = at-other j ne in
-      let q = k .thread j (subst (λ (u : Thread). T (isAdmitted u)) e a) in
+      let q = k .thread j (subst (λ (u : Thread). T (isReserved u)) e a) in
       record {
         small = q .small;
         in-list = c .others j ne (q .in-list);
         in-group = subst (λ (u : Thread). T (openAt s′ (u .group))) (sym e) (opens ((threadAt s j) .group) (q .in-group));
-        fit = subst (λ (u : Thread). Fit u (s′ .settings .thousandth) (s′ .meter)) (sym e)
-            (subst (λ (z : Settings). Fit (threadAt s j) (z .thousandth) (s′ .meter)) (sym (c .settings)) (fit-later (threadAt s j) (s .settings .thousandth) (s .meter) (s′ .meter) (c .meter) (q .fit)));
+        fit = subst (λ (u : Thread). Fit u (s′ .settings .thousandth)) (sym e)
+            (subst (λ (z : Settings). Fit (threadAt s j) (z .thousandth)) (sym (c .settings)) (q .fit));
       }
 
-  own-facts : T (admittedAt s′ n) → ThreadFacts s′ n
-  unfolding admittedAt
+  own-facts : T (reservedAt s′ n) → ThreadFacts s′ n
+  unfolding reservedAt
   own-facts a =
-      let b = subst (λ (u : Thread). T (isAdmitted u)) at-n a in
+      let b = subst (λ (u : Thread). T (isReserved u)) at-n a in
       record {
         small = small;
         in-list = c .own-list b;
         in-group = subst (λ (u : Thread). T (openAt s′ (u .group))) (sym at-n) (opens (t .group) (c .own-group b));
-        fit = subst (λ (u : Thread). Fit u (s′ .settings .thousandth) (s′ .meter)) (sym at-n) (subst (λ (z : Settings). Fit t (z .thousandth) (s′ .meter)) (sym (c .settings)) (c .own-fit b));
+        fit = subst (λ (u : Thread). Fit u (s′ .settings .thousandth)) (sym at-n)
+            (subst (λ (z : Settings). Fit t (z .thousandth)) (sym (c .settings)) (c .own-fit b));
       }
+
+  -- a property of every entry, from the changed one and the others
+  each : (P : ℕ → Type 0) → P n → ((j : ℕ) → (j ≡ n → ⊥) → P j) → (j : ℕ) → P j
+  each P own other j =
+      by (λ b. eqb j n ≡ b → P j) (eqb j n)
+      (λ e _. subst P (sym (eqb-true j n e)) own)
+      (λ e _. other j (eqb-false j n e))
+      refl
+
+  account-all : (j : ℕ) → T (admittedAt s′ j) → Account (threadAt s′ j) (s′ .meter)
+  unfolding admittedAt
+  account-all =
+      each (λ j. T (isAdmitted (threadAt s′ j)) → Account (threadAt s′ j) (s′ .meter))
+      (subst (λ (u : Thread). T (isAdmitted u) → Account u (s′ .meter)) (sym at-n) (c .own-account))
+      (λ j ne.
+      subst (λ (u : Thread). T (isAdmitted u) → Account u (s′ .meter)) (sym (at-other j ne))
+      (λ a. account-later (threadAt s j) (s .meter) (s′ .meter) (c .meter) (k .account j a)))
+
+  small-all : (j : ℕ) → T (admittedAt s′ j) → j < 64
+  unfolding admittedAt
+  small-all =
+      each (λ j. T (isAdmitted (threadAt s′ j)) → j < 64)
+      (λ _. small)
+      (λ j ne a. k .small j (subst (λ (u : Thread). T (isAdmitted u)) (at-other j ne) a))
 
   -- the loads
   load-change : (g : ℕ) → load s′ g + shareOf (threadAt s n) g ≡ load s g + shareOf t g
-  unfolding load reservedIn ceilingsIn threadIn childOf admittedAt reservationAt openAt
+  unfolding load reservedIn ceilingsIn threadIn childOf reservedAt reservationAt openAt
   load-change g =
-      let a = sum-update (λ j. shareOf (threadAt s j) g) (λ j. shareOf (threadAt s′ j) g) n (λ j ne. ap (λ (u : Thread). shareOf u g) (at-other j ne)) 64 small in
+      let a =
+      sum-update (λ j. shareOf (threadAt s j) g) (λ j. shareOf (threadAt s′ j) g) n
+      (λ j ne. ap (λ (u : Thread). shareOf u g) (at-other j ne)) 64 small in
       let b = ap (λ (u : Thread). shareOf u g) at-n in
       let d : sumBelow (λ i. cond (openAt s′ i && ltb 0 i && eqb ((groupAt s′ i) .parent) g) ((groupAt s′ i) .ceiling) 0) 16
       ≡ sumBelow (λ i. cond (openAt s i && ltb 0 i && eqb ((groupAt s i) .parent) g) ((groupAt s i) .ceiling) 0) 16 =
-      ap (λ (l : List Group). sumBelow (λ i. cond (ltb i 16 && isOpen (getD l i noGroup) && ltb 0 i && eqb ((getD l i noGroup) .parent) g) ((getD l i noGroup) .ceiling) 0) 16) (c .groups) in
+      ap (λ (l : List Group). sumBelow (λ i. cond (ltb i 16 && isOpen (getD l i noGroup) && ltb 0 i && eqb ((getD l i noGroup) .parent) g)
+      ((getD l i noGroup) .ceiling) 0) 16) (c .groups) in
       omega arith
 
   group-facts : (g : ℕ) → g < 16 → T (openAt s′ g) → GroupFacts s′ g
@@ -116,7 +142,12 @@ module _ (s : Scheduler) (k : Facts s) (n : ℕ) (small : n < 64) (t : Thread) (
       record {
         positive = subst (λ (r : Group). 1 ≤ r .ceiling) (sym e) (q .positive);
         at-most = subst (λ (r : Group). r .ceiling ≤ 1000) (sym e) (q .at-most);
-        parent = λ ne. (subst (λ (r : Group). r .parent < g) (sym e) ((q .parent ne) .0), subst (λ (r : Group). T (openAt s′ (r .parent))) (sym e) (opens ((groupAt s g) .parent) ((q .parent ne) .1)));
+        parent =
+            λ ne. (
+              subst (λ (r : Group). r .parent < g) (sym e) ((q .parent ne) .0),
+              subst (λ (r : Group). T (openAt s′ (r .parent)))
+                  (sym e) (opens ((groupAt s g) .parent) ((q .parent ne) .1)),
+            );
         carries = subst (λ (r : Group). load s′ g ≤ r .ceiling) (sym e) (omega (arith, load-change g, c .room g o′));
       }
 
@@ -130,16 +161,13 @@ module _ (s : Scheduler) (k : Facts s) (n : ℕ) (small : n < 64) (t : Thread) (
     whole = ap (λ (r : Group). r .ceiling) (group-same 0) ∙ k .whole;
     flag = λ g l. subst (λ (r : Group). r .opened ≤ 1) (sym (group-same g)) (k .flag g l);
     group = group-facts;
-    status = λ j l.
-        by (λ b. eqb j n ≡ b → (threadAt s′ j) .status ≤ 2) (eqb j n)
-        (λ e _. subst (λ (i : ℕ). (threadAt s′ i) .status ≤ 2) (sym (eqb-true j n e)) (subst (λ (u : Thread). u .status ≤ 2) (sym at-n) (c .own-status)))
-        (λ e _. subst (λ (u : Thread). u .status ≤ 2) (sym (at-other j (eqb-false j n e))) (k .status j l))
-        refl;
-    thread = λ j a.
-        by (λ b. eqb j n ≡ b → ThreadFacts s′ j) (eqb j n)
-        (λ e _. subst (ThreadFacts s′) (sym (eqb-true j n e)) (own-facts (subst (λ (i : ℕ). T (admittedAt s′ i)) (eqb-true j n e) a)))
-        (λ e _. other-facts j (eqb-false j n e) a)
-        refl;
+    status =
+        each (λ j. j < 64 → (threadAt s′ j) .status ≤ 2)
+        (λ _. subst (λ (u : Thread). u .status ≤ 2) (sym at-n) (c .own-status))
+        (λ j ne l. subst (λ (u : Thread). u .status ≤ 2) (sym (at-other j ne)) (k .status j l));
+    small = small-all;
+    account = account-all;
+    thread = each (λ j. T (reservedAt s′ j) → ThreadFacts s′ j) own-facts other-facts;
     count64 = c .count64;
     members = c .members;
     once = c .once;

@@ -8,10 +8,10 @@ use native.Mathlib.Numerals.{add-one}
 use native.Mathlib.Omega.{arith}
 use lib.ListN.{length, getD, set, take, drop, replicate, length-set, getD-replicate}
 use lib.Seq.{take-suc, take-take, getD-take, split-at, length-take-le, getD-set-same, getD-set-other}
-use lib.Dec.{T, ltb, eqb, lt→ltb}
+use lib.Dec.{T, T-not, ltb, eqb, lt→ltb}
 use borrow.Author.Tests.{eqb-true, eqb-false, le-ltb, eq-eqb}
 use Rattle.base.specs.Lists.{member, distinct, everyOf}
-use Rattle.base.proofs.Bools.{by, cases, and-l, and-r, is, deny, or-true, or-right}
+use Rattle.base.proofs.Bools.{by, cases, and-l, and-r, is, or-true, or-right}
 use Rattle.base.proofs.Lists.{everyOf-snoc, distinct-snoc, member-snoc}
 use Rattle.scheduler.specs.Inner.{Marks, ListSeen}
 use Rattle.scheduler.proofs.sound.Laws.{fails, or-none}
@@ -33,7 +33,7 @@ unfolding distinct member
 distinct-mid [] x b t = tt
 distinct-mid (n ∷ a) x b t =
     by (λ c. T (not (c || member x a))) (eqb n x)
-    (λ e. deny (member x (a ++ x ∷ b)) (apart e) (member-mid a x b))
+    (λ e. T-not (member x (a ++ x ∷ b)) (apart e) (member-mid a x b))
     (λ e. distinct-mid a x b (and-r (not (member n (a ++ x ∷ b))) (distinct (a ++ x ∷ b)) t))
   where
     apart : eqb n x ≡ true → T (not (member x (a ++ x ∷ b)))

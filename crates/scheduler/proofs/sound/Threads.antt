@@ -1,26 +1,26 @@
 -- The pass over the threads. After i threads each of them has passed its test, and the sums are their reservations. A free number
 -- passes if it does not stand in the list; an admitted thread by what `Entry` says. A thread that does not pass breaks the whole test.
-use Prim.Native.Nat.{ℕ, _+_, _*_, _-_, _≤_, _<_}
-use mathlib.Core.Path.{_≡_, refl, sym, ap, subst, _∙_}
+use Prim.Native.Nat.{ℕ, _+_, _*_, _≤_, _<_}
+use mathlib.Core.Path.{_≡_, sym, subst, _∙_}
 use mathlib.Core.List.{List}
-use mathlib.Core.Bool.{Bool, true, false, not, cond, _&&_, _||_, false≢true}
+use mathlib.Core.Bool.{Bool, true, false, not, cond, _&&_, _||_, false≢true, and-true, and-assoc}
 use native.Mathlib.Omega.{arith}
 use lib.ListN.{length, getD, set, replicate, getD-replicate}
 use mir.Syntax.{w32}
 use mir.Val.{Fits}
 use lib.Dec.{T, ltb, leb, eqb, leb→le, ltb→lt, eqb→eq}
 use borrow.Author.Count.{below-none, below-more}
-use borrow.Author.Tests.{lt-ltb, le-ltb, le-leb, ltb-false, eq-eqb, ne-eqb, not-true, not-false}
+use borrow.Author.Tests.{lt-ltb, le-leb, eq-eqb, ne-eqb, not-true}
 use Rattle.base.specs.Checks.{within}
 use Rattle.base.specs.Lists.{member, everyBelow, sumBelow}
-use Rattle.base.proofs.Bools.{and-l, and-r, is, holds, clash, or-false-l, or-false-r}
+use Rattle.base.proofs.Bools.{and-l, and-r, is, holds, clash}
 use Rattle.base.proofs.Sums.{everyBelow-at, everyBelow-of, sum-more}
 use Rattle.scheduler.specs.declared.Thread.{Thread}
 use Rattle.scheduler.specs.declared.Group.{Group}
 use Rattle.scheduler.specs.declared.Scheduler.{Scheduler}
-use Rattle.scheduler.specs.State.{noThread, noGroup, threadAt, groupAt, admittedAt, runnableAt, reservationAt, allotmentAt, openAt, listed}
-use Rattle.scheduler.specs.Sound.{threadIn, reservedIn, threadOk}
-use Rattle.scheduler.specs.Inner.{given, quotaOk, accountOk, boundsOk, Marks, Small, entryOk, ThreadsPass}
+use Rattle.scheduler.specs.State.{noThread, noGroup, threadAt, groupAt, admittedAt, reservedAt, runnableAt, reservationAt, openAt, listed}
+use Rattle.scheduler.specs.Sound.{quotaOk, accountOk, threadIn, reservedIn, threadOk}
+use Rattle.scheduler.specs.Inner.{given, boundsOk, Marks, Small, entryOk, ThreadsPass}
 use Rattle.scheduler.proofs.sound.Laws.{same, bump, Sized, sized-none, sized-more, sized-add}
 
 -- what `boundsOk` says
@@ -50,19 +50,6 @@ quota-most m t e =
     let f = t .reservation in
     leb→le f 1000 (and-r (leb 1 f) (leb f 1000) (and-l (within 1 1000 f) (within 1 (f * m) (t .allotment)) (holds (quotaOk m t) e)))
 
--- the parts of a thread's test, in the order of the code
-regroup : (p f o a w x y z : Bool) → (p && f && o && a && w && x && y && z) ≡ (p && (f && a) && o && (w && x && y && z))
-regroup false f o a w x y z = refl
-regroup true false o a w x y z = refl
-regroup true true false false w x y z = refl
-regroup true true false true w x y z = refl
-regroup true true true false w x y z = refl
-regroup true true true true w x y z = refl
-
-and-all : (b : Bool) → (b && true) ≡ b
-and-all true = refl
-and-all false = refl
-
 -- what the test says of an admitted thread
 pub record Entry (s : Scheduler) (n : ℕ) : Type 0 where
   pub valid : (threadAt s n) .status ≤ 2
@@ -72,11 +59,11 @@ pub record Entry (s : Scheduler) (n : ℕ) : Type 0 where
 
 module _ (s : Scheduler) (n : ℕ) where
   pub free-passes : (threadAt s n) .status ≡ 0 → member n (listed s) ≡ false → T (entryOk s n)
-  unfolding entryOk threadOk admittedAt
+  unfolding entryOk threadOk admittedAt reservedAt
   free-passes o e = holds (entryOk s n) (rw (o, e))
 
   pub free-listed : (threadAt s n) .status ≡ 0 → member n (listed s) ≡ true → T (entryOk s n) → ⊥
-  unfolding entryOk threadOk admittedAt
+  unfolding entryOk threadOk admittedAt reservedAt
   free-listed o e t = rw (o, e) at t
 
   module _ (admitted : (threadAt s n) .status ≡ 0 → ⊥) where
@@ -84,19 +71,23 @@ module _ (s : Scheduler) (n : ℕ) where
     unfolding admittedAt
     is-admitted = lt-ltb 0 ((threadAt s n) .status) (omega (arith, admitted))
 
+    is-reserved : reservedAt s n ≡ true
+    unfolding reservedAt
+    is-reserved = lt-ltb 0 ((threadAt s n) .status) (omega (arith, admitted))
+
     -- its test, by parts
-    test : entryOk s n ≡ (leb ((threadAt s n) .status) 2 && (member n (listed s) && quotaOk (s .settings .thousandth) (threadAt s n) && openAt s ((threadAt s n) .group) && accountOk (s .meter) (threadAt s n)))
-    unfolding entryOk threadOk reservationAt allotmentAt
+    placed : Bool
+    placed = member n (listed s) && quotaOk (s .settings .thousandth) (threadAt s n) && openAt s ((threadAt s n) .group)
+
+    test : entryOk s n ≡ (leb ((threadAt s n) .status) 2 && (placed && accountOk (s .meter) (threadAt s n)))
+    unfolding entryOk threadOk placed
     test =
         let t : Thread = threadAt s n in
-        rw is-admitted
-        (and-all (leb (t .status) 2 && _)
-        ∙ ap (λ (b : Bool). leb (t .status) 2 && b)
-        (regroup (member n (listed s)) (within 1 1000 (t .reservation)) (openAt s (t .group)) (within 1 (t .reservation * s .settings .thousandth) (t .allotment))
-        (leb (t .admission) (t .anchor)) (leb (t .anchor) (s .meter)) (leb (t .ticks) (s .meter - t .admission)) (leb (t .since) (s .meter - t .anchor))))
+        rw (is-reserved, is-admitted)
+        (and-true (leb (t .status) 2 && placed && accountOk (s .meter) t) ∙ and-assoc (leb (t .status) 2) placed (accountOk (s .meter) t))
 
     pub entry-passes : Entry s n → T (entryOk s n)
-    unfolding openAt
+    unfolding openAt placed
     entry-passes k =
         holds (entryOk s n)
         (rw (
@@ -110,7 +101,7 @@ module _ (s : Scheduler) (n : ℕ) where
         ))
 
     pub entry-facts : T (entryOk s n) → Entry s n
-    unfolding openAt
+    unfolding openAt placed
     entry-facts z =
         let t : Thread = threadAt s n in
         let v : Bool = leb (t .status) 2 in
@@ -147,12 +138,12 @@ threads-none s = record { passed = below-none (λ n. T (entryOk s n)); sums = λ
 
 module _ (s : Scheduler) (i : ℕ) (used : List ℕ) (t : ThreadsTo s i used) where
   free-part : (threadAt s i) .status ≡ 0 → (g : ℕ) → part s g i ≡ 0
-  unfolding part threadIn admittedAt
+  unfolding part threadIn reservedAt
   free-part o g = rw o
 
   own-part : ((threadAt s i) .status ≡ 0 → ⊥) → (g : ℕ) → part s g i ≡ cond (eqb ((threadAt s i) .group) g) ((threadAt s i) .reservation) 0
   unfolding part threadIn reservationAt
-  own-part a g = rw (is-admitted s i a)
+  own-part a g = rw (is-reserved s i a)
 
   pub threads-skip : (threadAt s i) .status ≡ 0 → member i (listed s) ≡ false → ThreadsTo s (i + 1) used
   threads-skip o e = record {

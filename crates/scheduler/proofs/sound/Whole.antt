@@ -19,7 +19,7 @@ use Rattle.base.proofs.Lists.{everyOf-at, everyOf-map}
 use Rattle.base.proofs.Sums.{everyBelow-at, everyBelow-of}
 use Rattle.scheduler.specs.declared.Settings.{Settings}
 use Rattle.scheduler.specs.declared.Scheduler.{Scheduler}
-use Rattle.scheduler.specs.State.{threadAt, admittedAt, runnableAt, listed}
+use Rattle.scheduler.specs.State.{threadAt, admittedAt, reservedAt, runnableAt, listed}
 use Rattle.scheduler.specs.Sound.{settingsOk, groupsOk, threadOk, listOk, runningOk, shapeOk, sound}
 use Rattle.scheduler.specs.Inner.{entryOk}
 use Rattle.scheduler.proofs.Scheduler as scheduler
@@ -61,7 +61,7 @@ module _ (s : Scheduler) where
   low = everyOf (λ n. ltb n 64) (listed s)
 
   abbrev held : Bool
-  held = everyOf (λ n. ltb n 64 && admittedAt s n) (listed s)
+  held = everyOf (λ n. ltb n 64 && reservedAt s n) (listed s)
 
   abbrev entries : Bool
   entries = everyBelow (entryOk s) 64
@@ -78,26 +78,26 @@ module _ (s : Scheduler) where
   -- the list and the threads
 
   held-low : T held → T low
-  held-low = everyOf-map (λ n. ltb n 64 && admittedAt s n) (λ n. ltb n 64) (listed s) (λ n u v. and-l (ltb n 64) (admittedAt s n) v)
+  held-low = everyOf-map (λ n. ltb n 64 && reservedAt s n) (λ n. ltb n 64) (listed s) (λ n u v. and-l (ltb n 64) (reservedAt s n) v)
 
   entries-of : T threads → T held → T entries
   unfolding entryOk
   entries-of t h = everyBelow-of (entryOk s) 64 (λ n l.
-      both (threadOk s n) (admittedAt s n || not (member n (listed s))) (everyBelow-at (threadOk s) 64 t n l)
-      (only (admittedAt s n) (member n (listed s))
-      (λ u. and-r (ltb n 64) (admittedAt s n) (everyOf-at (λ n. ltb n 64 && admittedAt s n) (listed s) h n u))))
+      both (threadOk s n) (reservedAt s n || not (member n (listed s))) (everyBelow-at (threadOk s) 64 t n l)
+      (only (reservedAt s n) (member n (listed s))
+      (λ u. and-r (ltb n 64) (reservedAt s n) (everyOf-at (λ n. ltb n 64 && reservedAt s n) (listed s) h n u))))
 
   threads-of : T entries → T threads
   unfolding entryOk
   threads-of t = everyBelow-of (threadOk s) 64 (λ n l.
-      and-l (threadOk s n) (admittedAt s n || not (member n (listed s))) (everyBelow-at (entryOk s) 64 t n l))
+      and-l (threadOk s n) (reservedAt s n || not (member n (listed s))) (everyBelow-at (entryOk s) 64 t n l))
 
   held-of : T entries → T low → T held
   unfolding entryOk
-  held-of t = everyOf-map (λ n. ltb n 64) (λ n. ltb n 64 && admittedAt s n) (listed s) (λ n u v.
-      both (ltb n 64) (admittedAt s n) v
-      (if (admittedAt s n) (member n (listed s))
-      (and-r (threadOk s n) (admittedAt s n || not (member n (listed s))) (everyBelow-at (entryOk s) 64 t n (ltb→lt n 64 v))) u))
+  held-of t = everyOf-map (λ n. ltb n 64) (λ n. ltb n 64 && reservedAt s n) (listed s) (λ n u v.
+      both (ltb n 64) (reservedAt s n) v
+      (if (reservedAt s n) (member n (listed s))
+      (and-r (threadOk s n) (reservedAt s n || not (member n (listed s))) (everyBelow-at (entryOk s) 64 t n (ltb→lt n 64 v))) u))
 
   -- the running thread
 

@@ -27,7 +27,7 @@ use Rattle.scheduler.specs.Refusals.{Call, wake, remove, checks, refusal
 use Rattle.scheduler.specs.Effects.{rear, offList, wokenThread, chosen, passedOver, effect, started, unstarted}
 use Rattle.scheduler.specs.Rule.{isDispatch, accept, refuse, step, startReply}
 use Rattle.scheduler.specs.Answers.{acceptedAnswer, answerTo, answeredTo, startAnswered, numbersOf, replyOf}
-use Rattle.scheduler.proofs.Facts.{Facts, facts, length-listed}
+use Rattle.scheduler.proofs.Facts.{Facts, facts, admitted-reserved, length-listed}
 use Rattle.scheduler.proofs.Passed.{passes, remove-passed, wake-passed}
 
 abbrev pub answered : Answer → Scheduler → Answered
@@ -115,7 +115,7 @@ pub record Listed (s : Scheduler) (n : ℕ) : Type 0 where
 pub is-listed : (s : Scheduler) → Facts s → (n : ℕ) → T (admittedAt s n) → Listed s n
 unfolding listed rear
 is-listed s k n a =
-    let t = k .thread n a in
+    let t = k .thread n (admitted-reserved s n a) in
     record {
       small = t .small;
       at = rest n (t .small);
@@ -182,7 +182,7 @@ module _ (s : Scheduler) (n : ℕ) where
       let ok = passes (wake n) s r in
       let w : t ≡ wokenThread s (threadAt s (n % 64)) = qt ∙ rw z in
       ap (withThread s (n % 64)) w
-      ∙ ap (λ (j : ℕ). withThread s j (wokenThread s (threadAt s j))) (rest n (((facts s (ok .0)) .thread n (wake-passed s n (ok .1))) .small)))
+      ∙ ap (λ (j : ℕ). withThread s j (wokenThread s (threadAt s j))) (rest n ((facts s (ok .0)) .small n (wake-passed s n (ok .1)))))
       (λ z.
       let w : t ≡ threadAt s (n % 64) = qt ∙ rw z in
       ap (withThread s (n % 64)) w

@@ -68,7 +68,7 @@ module _ (s : Scheduler) (reason used : ℕ) where
         let k = facts s (ok .0) in
         let p = report-passed s reason used (ok .1) in
         let r = k .run (p .0) in
-        let t = k .thread (s .running) (r .admitted) in
+        let t = k .account (s .running) (r .admitted) in
         let z = settings-facts (s .settings) (k .settings) in
         let l = is-listed s k (s .running) (r .admitted) in
         record {
@@ -76,8 +76,8 @@ module _ (s : Scheduler) (reason used : ℕ) where
           thousandth = z .1;
           short = omega (arith, p .1, z .3);
           meter = k .meter;
-          ticks = subst (λ (j : ℕ). (threadAt s j) .ticks ≤ 10000001000000) (sym (l .at)) (omega (arith, t .fit .charged, k .meter));
-          since = subst (λ (j : ℕ). (threadAt s j) .since ≤ 10000001000000) (sym (l .at)) (omega (arith, t .fit .since, k .meter));
+          ticks = subst (λ (j : ℕ). (threadAt s j) .ticks ≤ 10000001000000) (sym (l .at)) (omega (arith, t .charged, k .meter));
+          since = subst (λ (j : ℕ). (threadAt s j) .since ≤ 10000001000000) (sym (l .at)) (omega (arith, t .since, k .meter));
         }
 
   -- The new state.

@@ -3,6 +3,7 @@
 use super::*;
 use crate::codec::{self, RECORDS};
 use crate::engine::Proved;
+use model::calls::{self, Call};
 use model::random::{self, Rng};
 use model::rule::Scheduler;
 
@@ -150,13 +151,13 @@ fn spans_of_long_journals_are_whole_and_within_the_bound() {
         while records.len() < 5000 {
             let call = random::call(&mut r, &s);
             // Longer lives.
-            let ends = matches!(call, random::Call::Remove { .. })
-                || matches!(call, random::Call::Report { reason: 3, .. });
+            let ends = matches!(call, Call::Remove { .. })
+                || matches!(call, Call::Report { reason: 3, .. });
             if ends && !r.chance(1, 20) {
                 continue;
             }
-            random::apply(&mut s, call);
-            records.push(ours(random::record(call)));
+            calls::apply(&mut s, call);
+            records.push(ours(calls::record(call)));
         }
         let journal = pack(&records);
         let checked = Checked::of(&journal);

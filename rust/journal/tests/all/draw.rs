@@ -6,7 +6,8 @@ use journal::engine::Proved;
 use journal::names::Names;
 use journal::playback::Journal;
 use journal::progress::Progress;
-use model::random::{apply, call, journal, record, Rng};
+use model::calls::{apply, record};
+use model::random::{call, journal, Rng};
 use model::rule::Scheduler;
 
 use crate::controller::{play, Server};

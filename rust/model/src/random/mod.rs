@@ -7,7 +7,6 @@ mod states;
 
 use crate::rule::{METER_LIMIT, METER_MAX};
 
-pub use crate::calls::{apply, record, Call};
 pub use broken::broken_states;
 pub use calls::call;
 pub use journals::{any_record, journal};
