@@ -34,6 +34,8 @@ fi
 cd "$root" || fail "can't enter $root"
 
 if [ "$build" = yes ]; then
+    CARGO_TARGET_DIR=$root/target/cargo
+    export CARGO_TARGET_DIR
     rt staticlib abi || fail "rt staticlib abi failed"
     rt check mtrrun || fail "rt check mtrrun failed"
     cargo run --quiet --offline --release -p boundary -- --check || fail "the header or the Rust declarations are out of date"
@@ -78,6 +80,7 @@ package='/^\[/ { tests = /dev-dependencies/ || /^\[\[(test|example|bench)\]\]/ }
         cp "$archive" "$new/lib/libmtr.a" &&
         cp target/bin/mtrrun target/cargo/release/journal "$new/bin/" &&
         cp include/mtr.h "$new/include/mtr.h" &&
+        cp docs/RULE.md "$new/RULE.md" &&
         cp -R rust/mtr/build.rs rust/mtr/src "$new/rust/" &&
         awk "$package" rust/mtr/Cargo.toml >"$new/rust/Cargo.toml" &&
         cp -R examples/host/c "$new/examples/host/" &&
@@ -153,7 +156,8 @@ Commit $revision, $kit.
     rust/            the crate \`mtr\`: the same with Rust types (no_std), and the declarations in its module raw
     bin/mtrrun       replays a journal; bin/journal: journals as text, figures and pictures
     examples/host/   a controller's main loop, in C and in Rust
-    PROVED.md        what was proved, by which theorem, and what is assumed
+    RULE.md          the rule whole, in numbered sections
+    PROVED.md        what was proved of it, by which theorem, and what is assumed
 
 C, with this folder as vendor/mtr:
 

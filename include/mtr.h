@@ -38,9 +38,11 @@
  * lets a handler begin below the red zone or on a stack of its own.
  *
  * Costs. Stack is in bytes, from the caller's frame on: the call's arguments and
- * reply, and the library's frames. Instructions are those of the dearest case
- * that was measured, with 64 threads and 16 groups; the time of a call has no
- * other bound than these and the machine's.
+ * reply, and the library's frames; a handler needs it on top of its own, and the
+ * functions below add less than 160 bytes with gcc and clang. Instructions are
+ * those within the library, in the dearest accepted case that was measured: 64
+ * threads in 16 groups, a full block. The copies of the state that the functions
+ * below make come on top. Both are measured on this version's code.
  *
  *     call                 stack    instructions
  *     mtr_start             2800            2702

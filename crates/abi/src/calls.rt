@@ -1,4 +1,4 @@
-// The calls on the scheduler at the boundary. The state goes by value; an answer is the paper's numbers with the state after the call.
+// The calls on the scheduler at the boundary. The state goes by value; an answer is its numbers with the state after the call.
 ghost use mathlib.Core.Path.{_≡_};
 ghost use Rattle.scheduler.specs.Sound.{sound};
 ghost use Rattle.scheduler.specs.Refusals.{openGroup, closeGroup, admit, remove, wake, dispatch, report};

@@ -42,16 +42,19 @@ module _ (s : Scheduler) (n : ℕ) where
   unfolding accountOf figureRefusal firstOf
   admitted e l a = rw (e, le-ltb 63 n l, a)
 
-  -- accepted
-  accepted : figureRefusal s n ≡ 0 → (sound s ≡ true) × (n < 64) × T (admittedAt s n)
+  -- what no refusal means
+  abbrev Fine : Type 0
+  Fine = (sound s ≡ true) × (n < 64) × T (admittedAt s n)
+
+  accepted : figureRefusal s n ≡ 0 → Fine
   unfolding figureRefusal firstOf
   accepted e =
-      (by (λ b. _≡_ {A = ℕ} (cond (not b) 16 (cond (ltb 63 n || not (admittedAt s n)) 7 0)) 0 → sound s ≡ b → (sound s ≡ true) × (n < 64) × T (admittedAt s n)) (sound s)
+      (by (λ b. _≡_ {A = ℕ} (cond (not b) 16 (cond (ltb 63 n || not (admittedAt s n)) 7 0)) 0 → sound s ≡ b → Fine) (sound s)
       (λ _ t ok.
-      (by (λ b. _≡_ {A = ℕ} (cond (b || not (admittedAt s n)) 7 0) 0 → ltb 63 n ≡ b → (sound s ≡ true) × (n < 64) × T (admittedAt s n)) (ltb 63 n)
+      (by (λ b. _≡_ {A = ℕ} (cond (b || not (admittedAt s n)) 7 0) 0 → ltb 63 n ≡ b → Fine) (ltb 63 n)
       (λ _ u _. never 6 u)
       (λ _ u low.
-      (by (λ b. _≡_ {A = ℕ} (cond (not b) 7 0) 0 → admittedAt s n ≡ b → (sound s ≡ true) × (n < 64) × T (admittedAt s n)) (admittedAt s n)
+      (by (λ b. _≡_ {A = ℕ} (cond (not b) 7 0) 0 → admittedAt s n ≡ b → Fine) (admittedAt s n)
       (λ _ _ a. (ok, below (ltb-false 63 n low), holds (admittedAt s n) a))
       (λ _ v _. never 6 v))
       u refl))
@@ -67,7 +70,10 @@ module _ (s : Scheduler) (n : ℕ) where
 
   -- what is answered for a thread that is found, and for a refusal
   module _ {A : Type 0} (value : Thread → A) (no : ℕ → A) where
-    pub found : (t : Thread) → accountOf s n ≡ Found t → cond (eqb (figureRefusal s n) 0) (value (threadAt s n)) (no (figureRefusal s n)) ≡ value t
+    abbrev told : A
+    told = cond (eqb (figureRefusal s n) 0) (value (threadAt s n)) (no (figureRefusal s n))
+
+    pub found : (t : Thread) → accountOf s n ≡ Found t → told ≡ value t
     unfolding accountOf
     found t e =
         let k = figureRefusal s n in
@@ -76,7 +82,7 @@ module _ (s : Scheduler) (n : ℕ) where
         (λ _ u. absurd (let z : _≡_ {A = ℕ} 0 1 = cc in omega arith)))
         e
 
-    pub refused : (j : ℕ) → accountOf s n ≡ Refused j → cond (eqb (figureRefusal s n) 0) (value (threadAt s n)) (no (figureRefusal s n)) ≡ no j
+    pub refused : (j : ℕ) → accountOf s n ≡ Refused j → told ≡ no j
     unfolding accountOf
     refused j e =
         let k = figureRefusal s n in
@@ -89,10 +95,11 @@ module _ (s : Scheduler) (n : ℕ) where
   pub found-bounded : (t : Thread) → accountOf s n ≡ Found t → Bounded (s .meter) t
   unfolding accountOf
   found-bounded t e =
-      (by (λ b. cond b (Found (threadAt s n)) (Refused (figureRefusal s n)) ≡ Found t → eqb (figureRefusal s n) 0 ≡ b → Bounded (s .meter) t) (eqb (figureRefusal s n) 0)
+      let k = figureRefusal s n in
+      (by (λ b. cond b (Found (threadAt s n)) (Refused k) ≡ Found t → eqb k 0 ≡ b → Bounded (s .meter) t) (eqb k 0)
       (λ _ u q.
       let z : threadAt s n ≡ t = cc in
-      let a = accepted (eqb-true (figureRefusal s n) 0 q) in
+      let a = accepted (eqb-true k 0 q) in
       subst (Bounded (s .meter)) z (bounded s n (a .0) (a .1) (a .2)))
       (λ _ u _. absurd (let z : _≡_ {A = ℕ} 0 1 = cc in omega arith)))
       e refl

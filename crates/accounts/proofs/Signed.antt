@@ -14,6 +14,7 @@ use mir.Val.{SFits, toZ, ofZ}
 use mir.Facts.{toZ-ofZ}
 use Rattle.base.proofs.Bools.{by}
 use Rattle.scheduler.specs.declared.Thread.{Thread}
+use Rattle.scheduler.specs.State.{meterMost}
 use Rattle.scheduler.specs.Accounts.{lagOf, shareOf}
 use Rattle.accounts.specs.Inner.{Bounded}
 
@@ -51,7 +52,7 @@ told x y hx hy e = (λ i. ltZ (sym (toZ-ofZ hx) i) (sym (toZ-ofZ hy) i)) ∙ e
 abs-sub : (a b k : ℕ) → a ≤ k → b ≤ k → natAbs (subℕ a b) ≤ k
 abs-sub a b k ha hb = by (λ z. ltb a b ≡ z → natAbs (subℕ a b) ≤ k) (ltb a b) (λ _ e. rw e (omega (arith, ltb-true a b e))) (λ _ e. rw e (omega arith)) refl
 
-mag-abs : (z : ℤ) → natAbs z ≤ 1000 * 10000001000000 → mag z < 2 ^ 63
+mag-abs : (z : ℤ) → natAbs z ≤ 1000 * meterMost → mag z < 2 ^ 63
 mag-abs (pos n) h = omega arith
 mag-abs (negsuc n) h = omega arith
 
@@ -66,10 +67,10 @@ unfolding lagOf
 lag-runnable meter t e = rw (ne-eqb (t .status) 2 e)
 
 module _ (meter : ℕ) (t : Thread) (h : Bounded meter t) where
-  due-most : t .reservation * (meter - t .anchor) ≤ 1000 * 10000001000000
+  due-most : t .reservation * (meter - t .anchor) ≤ 1000 * meterMost
   due-most = let le : t .reservation * (meter - t .anchor) ≤ 1000 * (meter - t .anchor) = mul-le-mul-right (meter - t .anchor) (h .small) in omega arith
 
-  had-most : 1000 * t .since ≤ 1000 * 10000001000000
+  had-most : 1000 * t .since ≤ 1000 * meterMost
   had-most = omega arith
 
   pub due-small : t .reservation * (meter - t .anchor) < 2 ^ 63
@@ -82,12 +83,12 @@ module _ (meter : ℕ) (t : Thread) (h : Bounded meter t) where
   ticks-small = omega arith
 
   -- |lag| is at most 1000 × (10^13 + 10^6)
-  pub lag-most : natAbs (lagOf meter t) ≤ 1000 * 10000001000000
+  pub lag-most : natAbs (lagOf meter t) ≤ 1000 * meterMost
   unfolding lagOf
   lag-most =
-      by (λ b. natAbs (cond b (pos 0) (subℕ (t .reservation * (meter - t .anchor)) (1000 * t .since))) ≤ 1000 * 10000001000000) (eqb (t .status) 2)
+      by (λ b. natAbs (cond b (pos 0) (subℕ (t .reservation * (meter - t .anchor)) (1000 * t .since))) ≤ 1000 * meterMost) (eqb (t .status) 2)
       (λ _. omega arith)
-      (λ _. abs-sub (t .reservation * (meter - t .anchor)) (1000 * t .since) (1000 * 10000001000000) due-most had-most)
+      (λ _. abs-sub (t .reservation * (meter - t .anchor)) (1000 * t .since) (1000 * meterMost) due-most had-most)
 
   -- so its bits are read back as the lag
   pub lag-fits : SFits w64 (lagOf meter t)

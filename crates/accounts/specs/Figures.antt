@@ -1,5 +1,4 @@
--- "Accounts": the lag and the achieved share of a thread of the state. `lagOf` and `shareOf` of the scheduler's specs say what they are
--- of its record and the meter.
+-- RULE 6.7: the lag and the achieved share of a thread of the state.
 use Prim.Native.Nat.{ℕ}
 use mathlib.Core.Bool.{not, cond, _||_}
 use mathlib.Core.List.{[], _∷_}
@@ -14,7 +13,6 @@ use Rattle.accounts.specs.declared.Lag.the-variants as lag
 use Rattle.accounts.specs.declared.Share.{Share}
 use Rattle.accounts.specs.declared.Share.the-variants as share
 
--- "Every call that takes a state first gives 16 if it is not sound." "7, number above 63 or not admitted."
 unfoldable pub figureRefusal : Scheduler → ℕ → ℕ
 figureRefusal s n = firstOf ((not (sound s) ⇒ 16) ∷ (ltb 63 n || not (admittedAt s n) ⇒ 7) ∷ [])
 

@@ -7,7 +7,7 @@ use lib.Dec.{eqb}
 use lib.ListN.{length, take, drop}
 use Rattle.scheduler.specs.declared.Thread.{Thread}
 use Rattle.scheduler.specs.declared.Scheduler.{Scheduler}
-use Rattle.scheduler.specs.State.{threadAt}
+use Rattle.scheduler.specs.State.{threadAt, meterMost}
 use Rattle.scheduler.specs.Sound.{sound}
 use Rattle.accounts.specs.declared.Entry.{Entry}
 use Rattle.accounts.specs.declared.figures.Account.{Account}
@@ -21,7 +21,7 @@ use Rattle.accounts.specs.Roster.{rosterOf, rosterRefusal, tableOf}
 -- the bounds that a sound state puts on the record of an admitted thread
 pub record Bounded (meter : ℕ) (t : Thread) : Type 0 where
   pub small : t .reservation ≤ 1000
-  pub most : meter ≤ 10000001000000
+  pub most : meter ≤ meterMost
   pub admitted : t .admission ≤ meter
   pub anchored : t .anchor ≤ meter
   pub used : t .ticks ≤ meter - t .admission

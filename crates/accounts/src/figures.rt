@@ -3,6 +3,7 @@ use crate::Lag;
 use crate::Share;
 use scheduler::Scheduler;
 use scheduler::Thread;
+use scheduler::refusal;
 ghost use mathlib.Core.Path.{_≡_};
 ghost use Rattle.scheduler.specs.Accounts.{lagOf, shareOf};
 ghost use Rattle.accounts.specs.Figures.{lagAt, shareAt};
@@ -43,15 +44,15 @@ fn find(s: Scheduler, number: u64) -> Account
     ensures { λ r. ⌜ r ≡ accountOf s number ⌝ }
 {
     if !s.sound() {
-        return Account::Refused(16);
+        return Account::Refused(refusal::UNSOUND);
     }
     if 63 < number {
-        return Account::Refused(7);
+        return Account::Refused(refusal::NO_THREAD);
     }
     let n = number as usize;
     let t = s.threads[n];
     if t.status == 0 {
-        return Account::Refused(7);
+        return Account::Refused(refusal::NO_THREAD);
     }
     Account::Found(t)
 }

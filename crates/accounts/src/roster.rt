@@ -4,10 +4,14 @@ use crate::figures::share_of;
 use crate::sort::Keys;
 use crate::sort::order;
 use scheduler::Scheduler;
+use scheduler::refusal;
 ghost use mathlib.Core.Path.{_≡_};
 ghost use lib.ListN.{length};
 ghost use Rattle.accounts.specs.Roster.{threadState, rosterRefusal, tableOf};
 ghost use Rattle.accounts.specs.Inner.{Sorted, Filled, Planned};
+
+// The table is shorter than the number of threads.
+pub const LENGTH: u32 = 17;
 
 const NONE: Entry = Entry {
     number: 0,
@@ -82,11 +86,11 @@ fn planned(s: Scheduler, len: usize) -> Plan
     ensures { λ r. ⌜ Planned s len r ⌝ }
 {
     if !s.sound() {
-        return refused(16);
+        return refused(refusal::UNSOUND);
     }
     let k = order(s);
     if len < k.count {
-        return refused(17);
+        return refused(LENGTH);
     }
     filled(s, k)
 }

@@ -7,9 +7,9 @@ pub enum Mapping {
     Refused(u32),
 }
 
-pub const LEAST: u64 = 1;
+pub const LOWEST: u64 = 1;
 
-pub const MOST: u64 = 10;
+pub const HIGHEST: u64 = 10;
 
 pub const BASE: u32 = 10;
 
@@ -20,10 +20,10 @@ pub const OUTSIDE: u32 = 4;
 pub fn reservation_of(priority: u64) -> Mapping
     ensures { λ r. ⌜ r ≡ mappingOf priority ⌝ }
 {
-    if priority < LEAST {
+    if priority < LOWEST {
         return Mapping::Refused(OUTSIDE);
     }
-    if MOST < priority {
+    if HIGHEST < priority {
         return Mapping::Refused(OUTSIDE);
     }
     Mapping::Reservation(priority as u32 + BASE)

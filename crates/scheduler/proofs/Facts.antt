@@ -19,6 +19,7 @@ use Rattle.scheduler.specs.declared.Thread.{Thread}
 use Rattle.scheduler.specs.declared.Settings.{Settings}
 use Rattle.scheduler.specs.declared.Scheduler.{Scheduler}
 use Rattle.scheduler.specs.State.{noThread, isAdmitted, threadAt, groupAt, admittedAt, reservedAt, reservationAt, allotmentAt, openAt}
+use Rattle.scheduler.specs.State.{meterLimit, meterMost, sliceMost}
 use Rattle.scheduler.specs.State.{listed, runnableAt, withThread, withList}
 use Rattle.scheduler.specs.Sound.{settingsOk, quotaOk, accountOk, load, groupOk, groupsOk, threadOk, listOk, runningOk, shapeOk}
 use Rattle.scheduler.specs.Sound.{sound}
@@ -57,7 +58,7 @@ pub record RunFacts (s : Scheduler) : Type 0 where
   pub small : s .running < 64
   pub admitted : T (admittedAt s (s .running))
   pub runnable : T (runnableAt s (s .running))
-  pub early : s .meter < 10000000000000
+  pub early : s .meter < meterLimit
 
 pub record Facts (s : Scheduler) : Type 0 where
   pub threads64 : length (s .threads) ≡ 64
@@ -76,7 +77,7 @@ pub record Facts (s : Scheduler) : Type 0 where
   pub members : T (everyOf (λ n. ltb n 64 && reservedAt s n) (listed s))
   pub once : T (distinct (listed s))
   pub run : (s .running ≡ 64 → ⊥) → RunFacts s
-  pub meter : s .meter ≤ 10000001000000
+  pub meter : s .meter ≤ meterMost
 
 -- A reserved thread is admitted; here an admitted one is reserved, too.
 
@@ -205,7 +206,7 @@ run-of s t ne =
       small = ltb→lt (s .running) 64 (search (and-l, and-r));
       admitted = search (and-l, and-r);
       runnable = search (and-l, and-r);
-      early = ltb→lt (s .meter) 10000000000000 (search (and-l, and-r));
+      early = ltb→lt (s .meter) meterLimit (search (and-l, and-r));
     }
 
 record Parts (s : Scheduler) : Type 0 where
@@ -215,7 +216,7 @@ record Parts (s : Scheduler) : Type 0 where
   threads : T (everyBelow (threadOk s) 64)
   list : T (listOk s)
   run : T (runningOk s)
-  meter : T (leb (s .meter) 10000001000000)
+  meter : T (leb (s .meter) meterMost)
 
 parts : (s : Scheduler) → T (sound s) → Parts s
 unfolding sound
@@ -257,7 +258,7 @@ facts s t =
       members = search (and-l, and-r);
       once = search (and-l, and-r);
       run = run-of s (k .run);
-      meter = leb→le (s .meter) 10000001000000 (k .meter);
+      meter = leb→le (s .meter) meterMost (k .meter);
     }
 
 -- Back to the tests.
@@ -301,12 +302,12 @@ ok-run : (s : Scheduler) → ((s .running ≡ 64 → ⊥) → RunFacts s) → T 
 unfolding runningOk
 ok-run s f =
     by (λ b. eqb (s .running) 64 ≡ b → T (b || (ltb (s .running) 64 && admittedAt s (s .running) && runnableAt s (s .running)
-    && ltb (s .meter) 10000000000000))) (eqb (s .running) 64)
+    && ltb (s .meter) meterLimit))) (eqb (s .running) 64)
     (λ _ _. tt)
     (λ e _. go (f (eqb-false (s .running) 64 e)))
     refl
   where
-    go : RunFacts s → T (ltb (s .running) 64 && admittedAt s (s .running) && runnableAt s (s .running) && ltb (s .meter) 10000000000000)
+    go : RunFacts s → T (ltb (s .running) 64 && admittedAt s (s .running) && runnableAt s (s .running) && ltb (s .meter) meterLimit)
     go k = search (both, lt→ltb) depth 12
 
 pub sound-of : (s : Scheduler) → Facts s → T (sound s)
@@ -363,13 +364,13 @@ pub carries : (s : Scheduler) → Facts s → (g : ℕ) → T (openAt s g) → l
 carries s k g o = (k .group g (open-small s g o) o) .carries
 
 pub settings-facts : (z : Settings) → T (settingsOk z)
-    → (1 ≤ z .thousandth) × (z .thousandth ≤ 1000) × (1 ≤ z .interval) × (z .interval ≤ 1000000)
+    → (1 ≤ z .thousandth) × (z .thousandth ≤ 1000) × (1 ≤ z .interval) × (z .interval ≤ sliceMost)
 unfolding settingsOk within
 settings-facts z t = (
   leb→le 1 (z .thousandth) (search (and-l, and-r)),
   leb→le (z .thousandth) 1000 (search (and-l, and-r)),
   leb→le 1 (z .interval) (search (and-l, and-r)),
-  leb→le (z .interval) 1000000 (search (and-l, and-r)),
+  leb→le (z .interval) sliceMost (search (and-l, and-r)),
 )
 
 -- a check that has passed

@@ -12,7 +12,7 @@ use Rattle.base.specs.Lists.{everyBelow}
 use Rattle.base.proofs.Bools.{cases, and-l, and-r, holds, or-false-l, or-false-r}
 use Rattle.scheduler.specs.declared.Thread.{Thread}
 use Rattle.scheduler.specs.declared.Scheduler.{Scheduler}
-use Rattle.scheduler.specs.State.{threadAt, admittedAt, openAt, sliceAt}
+use Rattle.scheduler.specs.State.{threadAt, admittedAt, openAt, sliceAt, meterLimit, sliceMost}
 use Rattle.scheduler.specs.Sound.{threadIn, childOf, sound}
 use Rattle.scheduler.specs.Refusals.{Call, openGroup, closeGroup, admit, remove, wake, dispatch, report, free, inUse, checks, refusal}
 use Rattle.scheduler.specs.Refusals.{startRefusal}
@@ -66,12 +66,12 @@ report-passed s reason used e =
     let c3 = peel (ltb (sliceAt s (s .running)) used ⇒ 13) _ (lit< tt) (c2 .1) in
     (eqb-false (s .running) 64 (c1 .0), ltb-false (sliceAt s (s .running)) used (c3 .0))
 
-pub dispatch-early : (s : Scheduler) → firstOf (checks dispatch s) ≡ 0 → s .meter < 10000000000000
+pub dispatch-early : (s : Scheduler) → firstOf (checks dispatch s) ≡ 0 → s .meter < meterLimit
 unfolding checks
 dispatch-early s e =
     let c1 = peel (not (eqb (s .running) 64) ⇒ 12) _ (lit< tt) e in
-    let c2 = peel (leb 10000000000000 (s .meter) ⇒ 15) _ (lit< tt) (c1 .1) in
-    leb-false 10000000000000 (s .meter) (c2 .0)
+    let c2 = peel (leb meterLimit (s .meter) ⇒ 15) _ (lit< tt) (c1 .1) in
+    leb-false meterLimit (s .meter) (c2 .0)
 
 pub record AdmitOk (s : Scheduler) (n g d : ℕ) : Type 0 where
   pub small : n < 64
@@ -182,10 +182,10 @@ unfolding renewed
 not-used-up reason used t e = leb-false (t .allotment) used (or-false-r (eqb reason 2) (leb (t .allotment) used) e)
 
 -- an accepted start
-pub start-passed : (m p : ℕ) → startRefusal m p ≡ 0 → T (within 1 1000 m) × T (within 1 1000000 p)
+pub start-passed : (m p : ℕ) → startRefusal m p ≡ 0 → T (within 1 1000 m) × T (within 1 sliceMost p)
 unfolding startRefusal
 start-passed m p e =
-    let c = peel (not (within 1 1000 m) || not (within 1 1000000 p) ⇒ 1) [] (lit< tt) e in (
-      holds (within 1 1000 m) (not-false (within 1 1000 m) (or-false-l (not (within 1 1000 m)) (not (within 1 1000000 p)) (c .0))),
-      holds (within 1 1000000 p) (not-false (within 1 1000000 p) (or-false-r (not (within 1 1000 m)) (not (within 1 1000000 p)) (c .0))),
+    let c = peel (not (within 1 1000 m) || not (within 1 sliceMost p) ⇒ 1) [] (lit< tt) e in (
+      holds (within 1 1000 m) (not-false (within 1 1000 m) (or-false-l (not (within 1 1000 m)) (not (within 1 sliceMost p)) (c .0))),
+      holds (within 1 sliceMost p) (not-false (within 1 sliceMost p) (or-false-r (not (within 1 1000 m)) (not (within 1 sliceMost p)) (c .0))),
     )

@@ -14,9 +14,9 @@ use Rattle.base.proofs.Sums.{everyBelow-at, sum-update}
 use Rattle.scheduler.specs.declared.Group.{Group}
 use Rattle.scheduler.specs.declared.Scheduler.{Scheduler}
 use Rattle.scheduler.specs.State.{noGroup, threadAt, groupAt, admittedAt, reservedAt, runnableAt, reservationAt, openAt, listed}
+use Rattle.scheduler.specs.State.{sliceMost}
 use Rattle.scheduler.specs.State.{sliceAt, withGroup, isOpen}
-use Rattle.scheduler.specs.Sound.{settingsOk, load, threadIn, childOf, reservedIn, ceilingsIn}
-use Rattle.scheduler.specs.Sound.{shapeOk, sound}
+use Rattle.scheduler.specs.Sound.{settingsOk, load, threadIn, childOf, reservedIn, ceilingsIn, shapeOk, sound}
 use Rattle.scheduler.specs.Refusals.{Call, openGroup, closeGroup, admit, remove, wake, dispatch, report, free, refusal, startRefusal}
 use Rattle.scheduler.specs.Effects.{effect, started, unstarted}
 use Rattle.scheduler.specs.Rule.{accept, refuse, step, startReply}
@@ -286,9 +286,9 @@ stays-sound c s t =
 -- Start.
 
 -- everything but the settings is computed
-pub started-sound : (m p : ℕ) → T (within 1 1000 m) → T (within 1 1000000 p) → T (sound (started m p))
+pub started-sound : (m p : ℕ) → T (within 1 1000 m) → T (within 1 sliceMost p) → T (sound (started m p))
 unfolding lists soundness openAt admittedAt reservedAt listed started
-started-sound m p a b = rw (is (within 1 1000 m) a, is (within 1 1000000 p) b) tt
+started-sound m p a b = rw (is (within 1 1000 m) a, is (within 1 sliceMost p) b) tt
 
 -- An accepted start returns a sound state; a refused one a state that is not.
 pub start-sound : (m p : ℕ) → startRefusal m p ≡ 0 → T (sound ((startReply m p) .state))

@@ -13,8 +13,7 @@ use Rattle.base.proofs.Lists.{first-found}
 use Rattle.scheduler.specs.declared.Thread.{Thread}
 use Rattle.scheduler.specs.declared.Scheduler.{Scheduler}
 use Rattle.scheduler.specs.State.{threadAt, admittedAt, runnableAt, reservationAt, allotmentAt, listed, sliceAt, withThread}
-use Rattle.scheduler.specs.State.{withGroup}
-use Rattle.scheduler.specs.State.{withList, withRun}
+use Rattle.scheduler.specs.State.{withGroup, withList, withRun}
 use Rattle.scheduler.specs.Refusals.{Call, openGroup, closeGroup, admit, remove, wake, dispatch, report, refusal}
 use Rattle.scheduler.specs.Effects.{toRear, offList, join, wokenThread, renewed, chargedThread, charged, exited, chosen, effect}
 use Rattle.scheduler.specs.Rule.{accept, refuse, step}

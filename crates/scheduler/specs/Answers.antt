@@ -1,4 +1,4 @@
--- RULE 6: what each call answers, with the state that it hands back; and the numbers of an answer.
+-- RULE 6.5: what each call answers, with the state that it hands back; and the numbers of an answer.
 use Prim.Native.Nat.{ℕ}
 use mathlib.Core.Bool.{cond}
 use lib.Dec.{eqb}
@@ -13,7 +13,9 @@ use Rattle.scheduler.specs.Rule.{Reply, isDispatch, step, startReply}
 
 -- an accepted dispatch is idle or names the thread that runs
 unfoldable pub acceptedAnswer : Call → Scheduler → Answer
-acceptedAnswer c s = cond (isDispatch c) (cond (eqb (chosen s) 64) (Idle (passedOver s)) (Run (chosen s) (sliceAt s (chosen s)) (passedOver s))) Accepted
+acceptedAnswer c s =
+    cond (isDispatch c) (cond (eqb (chosen s) 64) (Idle (passedOver s)) (Run (chosen s) (sliceAt s (chosen s)) (passedOver s)))
+    Accepted
 
 unfoldable pub answerTo : Call → Scheduler → Answer
 answerTo c s = cond (eqb (refusal c s) 0) (acceptedAnswer c s) (Refused (refusal c s))
@@ -22,7 +24,10 @@ unfoldable pub answeredTo : Call → Scheduler → Answered
 answeredTo c s = record { answer = answerTo c s; state = (step c s) .state }
 
 unfoldable pub startAnswered : ℕ → ℕ → Answered
-startAnswered m p = record { answer = cond (eqb (startRefusal m p) 0) Accepted (Refused (startRefusal m p)); state = (startReply m p) .state }
+startAnswered m p = record {
+  answer = cond (eqb (startRefusal m p) 0) Accepted (Refused (startRefusal m p));
+  state = (startReply m p) .state;
+}
 
 -- answer, thread, slice, threads before it
 unfoldable pub numbersOf : Answer → Scheduler → Reply

@@ -1,4 +1,4 @@
--- What each call answers and the state it hands back. A refusal returns its number and the same state.
+-- RULE 6: the numbers that each call answers, and the state that it hands back. A refusal hands back the same state.
 use Prim.Native.Nat.{ℕ}
 use mathlib.Core.Bool.{Bool, true, false, cond}
 use lib.Dec.{eqb}
@@ -24,8 +24,7 @@ isDispatch (wake n) = false
 isDispatch dispatch = true
 isDispatch (report r u) = false
 
--- "thread, slice, threads before it. The last three are 0 except for an accepted dispatch; idle prints thread 64, slice 0", and the
--- length of the list
+-- RULE 6.5: thread, slice and threads before it are 0 but for an accepted dispatch; an idle one has 64, 0 and the list's length
 unfoldable pub accept : Call → Scheduler → Reply
 accept c s = record {
   answer = 0;

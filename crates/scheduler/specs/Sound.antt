@@ -10,10 +10,11 @@ use Rattle.scheduler.specs.declared.Settings.{Settings}
 use Rattle.scheduler.specs.declared.Thread.{Thread}
 use Rattle.scheduler.specs.declared.Scheduler.{Scheduler}
 use Rattle.scheduler.specs.State.{threadAt, groupAt, admittedAt, runnableAt, reservedAt, reservationAt, openAt, listed}
+use Rattle.scheduler.specs.State.{meterLimit, meterMost, sliceMost}
 
 -- RULE 5.1, 1
 unfoldable pub settingsOk : Settings → Bool
-settingsOk k = within 1 1000 (k .thousandth) && within 1 1000000 (k .interval)
+settingsOk k = within 1 1000 (k .thousandth) && within 1 sliceMost (k .interval)
 
 -- thread n counts in group g; group c is a child of group g
 unfoldable pub threadIn : Scheduler → ℕ → ℕ → Bool
@@ -71,7 +72,7 @@ listOk s = leb (s .count) 64 && everyOf (λ n. ltb n 64 && reservedAt s n) (list
 unfoldable pub runningOk : Scheduler → Bool
 runningOk s =
     eqb (s .running) 64
-    || (ltb (s .running) 64 && admittedAt s (s .running) && runnableAt s (s .running) && ltb (s .meter) 10000000000000)
+    || (ltb (s .running) 64 && admittedAt s (s .running) && runnableAt s (s .running) && ltb (s .meter) meterLimit)
 
 -- the lengths of the tables, which every state in memory has
 unfoldable pub shapeOk : Scheduler → Bool
@@ -85,4 +86,4 @@ sound s =
     && everyBelow (threadOk s) 64
     && listOk s
     && runningOk s
-    && leb (s .meter) 10000001000000
+    && leb (s .meter) meterMost

@@ -14,6 +14,16 @@ use Rattle.scheduler.specs.declared.Scheduler.{Scheduler}
 abbrev pub defaultSettings : Settings
 defaultSettings = record { thousandth = 100; interval = 20000 }
 
+-- the meter from which on no dispatch is accepted, and the greatest meter; the greatest interval, and so the greatest slice
+abbrev pub meterLimit : ℕ
+meterLimit = 10000000000000
+
+abbrev pub meterMost : ℕ
+meterMost = 10000001000000
+
+abbrev pub sliceMost : ℕ
+sliceMost = 1000000
+
 -- RULE 1.6: a freed entry is all zeros.
 abbrev pub noThread : Thread
 noThread = record { admission = 0; anchor = 0; ticks = 0; since = 0; allotment = 0; reservation = 0; group = 0; status = 0 }

@@ -19,6 +19,7 @@ use crate::Answered;
 use crate::Group;
 use crate::Scheduler;
 use crate::Thread;
+use crate::refusal;
 use crate::threads;
 
 const GROUPS: u64 = Scheduler::GROUPS as u64;
@@ -177,14 +178,14 @@ fn free_in(groups: [Group; 16], group: u64, used: u64) -> u64
 fn amount_code(amount: u64, room: u64) -> u32
     ensures { λ r. ⌜ r ≡ firstOf ((not (within 1 1000 amount) ⇒ 4) ∷ (ltb room amount ⇒ 5) ∷ []) ⌝ }
 {
-    if amount < 1 {
-        return 4;
+    if amount < Scheduler::AMOUNT_LEAST as u64 {
+        return refusal::AMOUNT;
     }
     if (Scheduler::WHOLE as u64) < amount {
-        return 4;
+        return refusal::AMOUNT;
     }
     if room < amount {
-        return 5;
+        return refusal::NO_ROOM;
     }
     0
 }
@@ -202,19 +203,19 @@ fn open_code(
         ≡ refusal (openGroup number parent ceiling) s) ⌝ }
 {
     if !ok {
-        return 16;
+        return refusal::UNSOUND;
     }
     if !is_open(groups, parent) {
-        return 2;
+        return refusal::NO_GROUP;
     }
     if GROUPS <= number {
-        return 3;
+        return refusal::GROUP_NUMBER;
     }
     if is_open(groups, number) {
-        return 3;
+        return refusal::GROUP_NUMBER;
     }
     if number <= parent {
-        return 3;
+        return refusal::GROUP_NUMBER;
     }
     amount_code(ceiling, free_in(groups, parent, used))
 }
@@ -224,16 +225,16 @@ fn close_code(ok: bool, groups: [Group; 16], used: u64, number: u64) -> u32
     ensures { λ r. ⌜ ((s : Scheduler) → ok ≡ sound s → s .groups ≡ groups → (ok ≡ true → number < 16 → used ≡ load s number) → r ≡ refusal (closeGroup number) s) ⌝ }
 {
     if !ok {
-        return 16;
+        return refusal::UNSOUND;
     }
     if number == 0 {
-        return 2;
+        return refusal::NO_GROUP;
     }
     if !is_open(groups, number) {
-        return 2;
+        return refusal::NO_GROUP;
     }
     if used != 0 {
-        return 6;
+        return refusal::GROUP_IN_USE;
     }
     0
 }
@@ -252,16 +253,16 @@ fn admit_code(
         → (number < 64 → status ≡ (threadAt s number) .status) → r ≡ refusal (admit number group reservation) s) ⌝ }
 {
     if !ok {
-        return 16;
+        return refusal::UNSOUND;
     }
     if Scheduler::THREADS as u64 <= number {
-        return 7;
+        return refusal::NO_THREAD;
     }
     if 0 < status {
-        return 8;
+        return refusal::ALREADY_ADMITTED;
     }
     if !is_open(groups, group) {
-        return 2;
+        return refusal::NO_GROUP;
     }
     amount_code(reservation, free_in(groups, group, used))
 }
@@ -371,11 +372,11 @@ impl Scheduler {
     {
         let test = self.tested();
         if !test.ok {
-            return Total::Refused(16);
+            return Total::Refused(refusal::UNSOUND);
         }
         let groups = self.groups;
         if !is_open(groups, group) {
-            return Total::Refused(2);
+            return Total::Refused(refusal::NO_GROUP);
         }
         let reserved = test.used;
         Total::Thousandths(subtree(groups, reserved, group))

@@ -4,6 +4,7 @@ ghost use Rattle.scheduler.specs.State.{defaultSettings};
 
 pub mod batch;
 pub mod groups;
+pub mod refusal;
 pub mod sound;
 pub mod threads;
 
@@ -19,7 +20,11 @@ impl Settings {
 
     pub const INTERVAL: u32 = 20000;
 
+    pub const THOUSANDTH_LEAST: u32 = 1;
+
     pub const THOUSANDTH_MOST: u32 = 1000;
+
+    pub const INTERVAL_LEAST: u32 = 1;
 
     pub const INTERVAL_MOST: u32 = 1000000;
 
@@ -72,6 +77,9 @@ impl Scheduler {
     pub const THREADS: u32 = 64;
 
     pub const GROUPS: u32 = 16;
+
+    // The least ceiling and the least reservation, in thousandths; WHOLE is the most.
+    pub const AMOUNT_LEAST: u32 = 1;
 
     pub const WHOLE: u32 = 1000;
 

@@ -8,6 +8,7 @@ ghost use lib.Dec.{ltb, leb, eqb};
 ghost use Rattle.base.specs.Checks.{within};
 ghost use Rattle.scheduler.specs.declared.Scheduler.{Scheduler};
 ghost use Rattle.scheduler.specs.State.{listed};
+ghost use Rattle.scheduler.specs.State.{meterLimit, meterMost};
 ghost use Rattle.scheduler.specs.Sound.{settingsOk, accountOk, groupsOk, sound};
 ghost use Rattle.scheduler.specs.Inner.{given, having, boundsOk, Marks, ListSeen, Sums, Small, ThreadsPass, Tested};
 use crate::Group;
@@ -37,13 +38,14 @@ impl Settings {
     {
         let m = self.thousandth;
         let p = self.interval;
-        ((1 <= m) & (m <= Self::THOUSANDTH_MOST)) & ((1 <= p) & (p <= Self::INTERVAL_MOST))
+        ((Self::THOUSANDTH_LEAST <= m) & (m <= Self::THOUSANDTH_MOST))
+            & ((Self::INTERVAL_LEAST <= p) & (p <= Self::INTERVAL_MOST))
     }
 }
 
 // The meter's limits, the lower one while a thread runs.
 fn meter_ok(meter: u64, running: u32) -> bool
-    ensures { λ r. ⌜ r ≡ (leb meter 10000001000000 && leb running 64 && (eqb running 64 || ltb meter 10000000000000)) ⌝ }
+    ensures { λ r. ⌜ r ≡ (leb meter meterMost && leb running 64 && (eqb running 64 || ltb meter meterLimit)) ⌝ }
 {
     (meter <= Scheduler::METER_MOST)
         & (running <= Scheduler::THREADS)
@@ -213,7 +215,7 @@ fn groups_ok(groups: [Group; 16], reserved: [u32; 16]) -> bool
         let ceiling = x.ceiling as u32;
         let ok = (opened == 1)
             & (home.opened == 1)
-            & (1 <= ceiling)
+            & (Scheduler::AMOUNT_LEAST <= ceiling)
             & (ceiling <= Scheduler::WHOLE)
             & (used[i] <= ceiling);
         if !ok {

@@ -9,7 +9,7 @@ ghost use lib.Dec.{ltb, leb, eqb};
 ghost use lib.ListN.{take, drop};
 ghost use Rattle.base.specs.Checks.{_⇒_, firstOf};
 ghost use Rattle.order.specs.Queue.{requeue};
-ghost use Rattle.scheduler.specs.State.{noThread};
+ghost use Rattle.scheduler.specs.State.{noThread, meterLimit, meterMost, sliceMost};
 ghost use Rattle.scheduler.specs.Sound.{sound};
 ghost use Rattle.scheduler.specs.Refusals.{remove, wake, dispatch, report, startRefusal};
 ghost use Rattle.scheduler.specs.Effects.{renewed, chargedThread, wokenThread, unstarted};
@@ -20,6 +20,7 @@ use crate::Group;
 use crate::Scheduler;
 use crate::Settings;
 use crate::Thread;
+use crate::refusal;
 
 // The reasons of a report.
 pub const TICK: u64 = 0;
@@ -32,7 +33,7 @@ pub const EXIT: u64 = 3;
 
 // The meter, or a thread's own count, after a report of the ticks used.
 fn charge(total: u64, used: u64) -> u64
-    requires { ⌜ (total ≤ 10000001000000) × (used ≤ 1000000) ⌝ }
+    requires { ⌜ (total ≤ meterMost) × (used ≤ sliceMost) ⌝ }
     ensures { λ r. ⌜ r ≡ total + used ⌝ }
 {
     total + used
@@ -153,9 +154,9 @@ impl Thread {
     // The thread after a report that is accepted and leaves the meter at `meter`.
     fn charged(mut self, meter: u64, thousandth: u32, reason: u64, used: u64) -> Self
         requires { ⌜ (thousandth ≤ 1000)
-            × (used ≤ 1000000)
-            × (self .ticks ≤ 10000001000000)
-            × (self .since ≤ 10000001000000) ⌝ }
+            × (used ≤ sliceMost)
+            × (self .ticks ≤ meterMost)
+            × (self .since ≤ meterMost) ⌝ }
         ensures { λ r. ⌜ ((s : Scheduler) → s .meter + used ≡ meter → s .settings .thousandth ≡ thousandth
             → r ≡ cond (eqb reason 3) noThread (chargedThread s reason used self)) ⌝ }
     {
@@ -184,9 +185,9 @@ impl Thread {
     // The thread after a report.
     fn reported(self, accepted: bool, meter: u64, thousandth: u32, reason: u64, used: u64) -> Self
         requires { ⌜ (accepted ≡ true → (thousandth ≤ 1000)
-            × (used ≤ 1000000)
-            × (self .ticks ≤ 10000001000000)
-            × (self .since ≤ 10000001000000)) ⌝ }
+            × (used ≤ sliceMost)
+            × (self .ticks ≤ meterMost)
+            × (self .since ≤ meterMost)) ⌝ }
         ensures { λ r. ⌜ ((s : Scheduler) → (accepted ≡ true → s .meter + used ≡ meter) → s .settings .thousandth ≡ thousandth
             → r ≡ cond accepted (cond (eqb reason 3) noThread (chargedThread s reason used self)) self) ⌝ }
     {
@@ -199,7 +200,7 @@ impl Thread {
 
 // The meter after a report.
 fn meter_after(accepted: bool, meter: u64, used: u64) -> u64
-    requires { ⌜ (accepted ≡ true → (meter ≤ 10000001000000) × (used ≤ 1000000)) ⌝ }
+    requires { ⌜ (accepted ≡ true → (meter ≤ meterMost) × (used ≤ sliceMost)) ⌝ }
     ensures { λ r. ⌜ r ≡ cond accepted (meter + used) meter ⌝ }
 {
     if accepted {
@@ -253,17 +254,17 @@ fn searched(code: u32, count: u32) -> u32
 fn start_code(thousandth: u64, interval: u64) -> u32
     ensures { λ r. ⌜ r ≡ startRefusal thousandth interval ⌝ }
 {
-    if thousandth < 1 {
-        return 1;
+    if thousandth < Settings::THOUSANDTH_LEAST as u64 {
+        return refusal::SETTINGS;
     }
     if (Settings::THOUSANDTH_MOST as u64) < thousandth {
-        return 1;
+        return refusal::SETTINGS;
     }
-    if interval < 1 {
-        return 1;
+    if interval < Settings::INTERVAL_LEAST as u64 {
+        return refusal::SETTINGS;
     }
     if (Settings::INTERVAL_MOST as u64) < interval {
-        return 1;
+        return refusal::SETTINGS;
     }
     0
 }
@@ -273,16 +274,16 @@ fn remove_code(ok: bool, number: u64, status: u8, running: u32) -> u32
     ensures { λ r. ⌜ r ≡ firstOf ((not ok ⇒ 16) ∷ (ltb 63 number || not (ltb 0 status) ⇒ 7) ∷ (eqb running number ⇒ 9) ∷ []) ⌝ }
 {
     if !ok {
-        return 16;
+        return refusal::UNSOUND;
     }
     if Scheduler::THREADS as u64 <= number {
-        return 7;
+        return refusal::NO_THREAD;
     }
     if status == 0 {
-        return 7;
+        return refusal::NO_THREAD;
     }
     if running as u64 == number {
-        return 9;
+        return refusal::THREAD_RUNNING;
     }
     0
 }
@@ -292,32 +293,32 @@ fn wake_code(ok: bool, number: u64, status: u8) -> u32
     ensures { λ r. ⌜ r ≡ firstOf ((not ok ⇒ 16) ∷ (ltb 63 number || not (ltb 0 status) ⇒ 7) ∷ (not (eqb status 2) ⇒ 10) ∷ []) ⌝ }
 {
     if !ok {
-        return 16;
+        return refusal::UNSOUND;
     }
     if Scheduler::THREADS as u64 <= number {
-        return 7;
+        return refusal::NO_THREAD;
     }
     if status == 0 {
-        return 7;
+        return refusal::NO_THREAD;
     }
     if status != Thread::BLOCKED {
-        return 10;
+        return refusal::NOT_BLOCKED;
     }
     0
 }
 
 // The number that a dispatch is refused with, or 0.
 fn dispatch_code(ok: bool, running: u32, meter: u64) -> u32
-    ensures { λ r. ⌜ r ≡ firstOf ((not ok ⇒ 16) ∷ (not (eqb running 64) ⇒ 12) ∷ (leb 10000000000000 meter ⇒ 15) ∷ []) ⌝ }
+    ensures { λ r. ⌜ r ≡ firstOf ((not ok ⇒ 16) ∷ (not (eqb running 64) ⇒ 12) ∷ (leb meterLimit meter ⇒ 15) ∷ []) ⌝ }
 {
     if !ok {
-        return 16;
+        return refusal::UNSOUND;
     }
     if running != Scheduler::THREADS {
-        return 12;
+        return refusal::BUSY;
     }
     if Scheduler::METER_LIMIT <= meter {
-        return 15;
+        return refusal::METER_FULL;
     }
     0
 }
@@ -327,16 +328,16 @@ fn report_code(ok: bool, running: u32, reason: u64, slice: u32, used: u64) -> u3
     ensures { λ r. ⌜ r ≡ firstOf ((not ok ⇒ 16) ∷ (eqb running 64 ⇒ 11) ∷ (ltb 3 reason ⇒ 14) ∷ (ltb slice used ⇒ 13) ∷ []) ⌝ }
 {
     if !ok {
-        return 16;
+        return refusal::UNSOUND;
     }
     if running == Scheduler::THREADS {
-        return 11;
+        return refusal::NOTHING_RUNNING;
     }
     if EXIT < reason {
-        return 14;
+        return refusal::REASON;
     }
     if (slice as u64) < used {
-        return 13;
+        return refusal::OVER_SLICE;
     }
     0
 }

@@ -43,6 +43,7 @@ fn contents() {
         "KIT",
         "PROVED.md",
         "README",
+        "RULE.md",
         "SHA256SUMS",
         "VERSION",
         "bin/journal",

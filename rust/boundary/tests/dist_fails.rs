@@ -26,13 +26,14 @@ const FOLDERS: [&str; 8] = [
     "rust/mtr/src",
 ];
 
-const FILES: [&str; 6] = [
+const FILES: [&str; 7] = [
     "dist.sh",
     "include/mtr.h",
     "rust/mtr/build.rs",
     "rust/mtr/Cargo.toml",
     "examples/host/rust/Cargo.toml",
     "docs/PROOFS.md",
+    "docs/RULE.md",
 ];
 
 impl Repository {

@@ -62,10 +62,11 @@ fn became(end: Option<End>) -> &'static str {
     }
 }
 
-/// The table's columns: heading, whether to the left, and a thread's value.
+/// A table's column: heading, whether to the left, and a thread's value.
 type Column = (&'static str, bool, fn(u8, &Thread, &Names) -> String);
 
-const COLUMNS: [Column; 16] = [
+/// What a thread has and does.
+const HAS: [Column; 9] = [
     ("thread", true, |n, _, names| names.label(n)),
     ("group", false, |_, t, _| t.group.to_string()),
     ("reserved", false, |_, t, _| t.reservation.to_string()),
@@ -73,6 +74,13 @@ const COLUMNS: [Column; 16] = [
     ("runs", false, |_, t, _| t.runs.to_string()),
     ("wakes", false, |_, t, _| t.wakes.to_string()),
     ("refused", false, |_, t, _| t.refused.to_string()),
+    ("lives", false, |_, t, _| t.lives.to_string()),
+    ("at the end", true, |_, t, _| became(t.end).to_string()),
+];
+
+/// The longest and the largest, and where they are.
+const MOST: [Column; 9] = [
+    ("thread", true, |n, _, names| names.label(n)),
     ("longest run", false, |_, t, _| ms(t.longest_run.ticks)),
     ("from record", false, |_, t, _| {
         record(t.longest_run.ticks, t.longest_run.record)
@@ -87,8 +95,10 @@ const COLUMNS: [Column; 16] = [
         _ => ms(t.largest.at),
     }),
     ("bound", false, |_, t, _| lag_ms(t.largest.bound)),
-    ("lives", false, |_, t, _| t.lives.to_string()),
-    ("at the end", true, |_, t, _| became(t.end).to_string()),
+    ("of it", false, |_, t, _| match t.largest.bound {
+        0 => "-".into(),
+        bound => format!("{} %", t.largest.lag * 100 / bound),
+    }),
 ];
 
 fn record(ticks: u64, number: u64) -> String {
@@ -101,8 +111,9 @@ fn record(ticks: u64, number: u64) -> String {
 const LEGEND: &str = "\
 Times are in milliseconds of processor time, shares and reservations in
 thousandths. The share is that of a thread's last life, from admission to its
-end. Runs are dispatches; a longest run may be several in a row. A lag is owed
-time; the bound is what the share guarantee lets it be at most.
+end. Runs are dispatches; a longest run may be several in a row. Refused are
+records that name the thread, or reports of its runs. A lag is owed time; the
+bound is what the share guarantee lets it be at most.
 ";
 
 impl Figures {
@@ -120,8 +131,10 @@ impl Figures {
         if threads.is_empty() {
             out.push_str("\nNo thread was admitted.\n");
         } else {
-            out.push('\n');
-            self.table(&threads, names, &mut out);
+            for columns in [&HAS, &MOST] {
+                out.push('\n');
+                self.table(columns, &threads, names, &mut out);
+            }
             let _ = write!(out, "\n{LEGEND}");
         }
         self.groups(&mut out);
@@ -155,17 +168,17 @@ impl Figures {
         facts.join(", ")
     }
 
-    fn table(&self, threads: &[u8], names: &Names, out: &mut String) {
-        let mut rows = vec![COLUMNS.map(|(heading, _, _)| heading.to_string())];
+    fn table(&self, columns: &[Column; 9], threads: &[u8], names: &Names, out: &mut String) {
+        let mut rows = vec![columns.map(|(heading, _, _)| heading.to_string())];
         for &n in threads {
             let t = &self.survey.threads[n as usize];
-            rows.push(COLUMNS.map(|(_, _, value)| value(n, t, names)));
+            rows.push(columns.map(|(_, _, value)| value(n, t, names)));
         }
         let width = |c: usize| rows.iter().map(|row| row[c].chars().count()).max();
-        let widths: Vec<usize> = (0..COLUMNS.len()).map(|c| width(c).unwrap_or(0)).collect();
+        let widths: Vec<usize> = (0..columns.len()).map(|c| width(c).unwrap_or(0)).collect();
         for row in &rows {
             let mut line = String::new();
-            for ((cell, width), (_, left, _)) in row.iter().zip(&widths).zip(&COLUMNS) {
+            for ((cell, width), (_, left, _)) in row.iter().zip(&widths).zip(columns) {
                 let pad = " ".repeat(width - cell.chars().count());
                 let _ = match left {
                     true => write!(line, "{cell}{pad}  "),

@@ -16,6 +16,7 @@ use Rattle.base.proofs.Lists.{member-last, distinct-snoc}
 use Rattle.scheduler.specs.declared.Thread.{Thread}
 use Rattle.scheduler.specs.declared.Scheduler.{Scheduler}
 use Rattle.scheduler.specs.State.{noThread, threadAt, groupAt, admittedAt, reservedAt, runnableAt, allotmentAt, openAt, listed}
+use Rattle.scheduler.specs.State.{meterLimit, meterMost}
 use Rattle.scheduler.specs.State.{sliceAt, withThread, withList, withRun, isAdmitted, isReserved, isRunnable}
 use Rattle.scheduler.specs.Sound.{load}
 use Rattle.scheduler.specs.Refusals.{admit, remove, wake, dispatch, free}
@@ -221,7 +222,7 @@ module _ (s : Scheduler) (k : Facts s) (r : ℕ) (is-r : s .running ≡ r) (runs
     r-facts : ThreadFacts s r
     r-facts = k .thread r r-res
 
-    late : s .meter + used ≤ 10000001000000
+    late : s .meter + used ≤ meterMost
     unfolding sliceAt
     late =
         omega (
@@ -352,7 +353,7 @@ module _ (s : Scheduler) (k : Facts s) (r : ℕ) (is-r : s .running ≡ r) (runs
 
 -- Dispatch.
 
-pub dispatch-facts : (s : Scheduler) → Facts s → s .meter < 10000000000000 → Facts (effect dispatch s)
+pub dispatch-facts : (s : Scheduler) → Facts s → s .meter < meterLimit → Facts (effect dispatch s)
 unfolding effect withRun listed admittedAt reservedAt runnableAt chosen
 dispatch-facts s k early =
     let t = threadAt s 0 in

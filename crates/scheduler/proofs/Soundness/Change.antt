@@ -17,6 +17,7 @@ use Rattle.scheduler.specs.declared.Thread.{Thread}
 use Rattle.scheduler.specs.declared.Group.{Group}
 use Rattle.scheduler.specs.declared.Scheduler.{Scheduler}
 use Rattle.scheduler.specs.State.{noThread, noGroup, threadAt, groupAt, admittedAt, reservedAt, reservationAt, openAt, listed}
+use Rattle.scheduler.specs.State.{meterMost}
 use Rattle.scheduler.specs.State.{isAdmitted, isReserved, isOpen}
 use Rattle.scheduler.specs.Sound.{settingsOk, load, threadIn, childOf, reservedIn, ceilingsIn}
 use Rattle.scheduler.specs.Effects.{charged}
@@ -39,7 +40,7 @@ pub record Changed (s : Scheduler) (n : ℕ) (t : Thread) (s′ : Scheduler) : T
   pub groups : s′ .groups ≡ s .groups
   pub settings : s′ .settings ≡ s .settings
   pub meter : s .meter ≤ s′ .meter
-  pub meter-most : s′ .meter ≤ 10000001000000
+  pub meter-most : s′ .meter ≤ meterMost
   pub order64 : length (s′ .order) ≡ 64
   pub count64 : s′ .count ≤ 64
   pub members : T (everyOf (λ n. ltb n 64 && reservedAt s′ n) (listed s′))

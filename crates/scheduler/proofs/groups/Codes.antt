@@ -116,7 +116,8 @@ clear : (c : Call) (s : Scheduler) (k : ℕ) → k ≡ refusal c s → eqb k 0 �
 clear c s k e t = sym e ∙ eqb-true k 0 t
 
 -- a call that stores one group
-group-done : (c : Call) (s : Scheduler) (n k : ℕ) (new : Group) → isDispatch c ≡ false → effect c s ≡ withGroup s n new → k ≡ refusal c s → (eqb k 0 ≡ true → n < 16)
+group-done : (c : Call) (s : Scheduler) (n k : ℕ) (new : Group) → isDispatch c ≡ false
+    → effect c s ≡ withGroup s n new → k ≡ refusal c s → (eqb k 0 ≡ true → n < 16)
     → (a : Answer) → a ≡ cond (eqb k 0) Accepted (Refused k) → (g : Group) → g ≡ cond (eqb k 0) new (groupAt s (n % 16))
     → answered a (withGroup s (n % 16) g) ≡ answeredTo c s
 unfolding withGroup
@@ -129,7 +130,8 @@ group-done c s n k new d f e small a q g u =
     (λ t.
     let is : g ≡ groupAt s (n % 16) = cc in
     ap (withGroup s (n % 16)) is
-    ∙ ap (λ (l : List Group). stateOf (s .threads) (s .order) l (s .meter) (s .settings) (s .count) (s .running)) (set-getD (s .groups) (n % 16) noGroup))
+    ∙ ap (λ (l : List Group). stateOf (s .threads) (s .order) l (s .meter) (s .settings) (s .count) (s .running))
+    (set-getD (s .groups) (n % 16) noGroup))
 
 module _ (s : Scheduler) (n p d k : ℕ) (e : k ≡ refusal (openGroup n p d) s) where
   opened : eqb k 0 ≡ true → OpenOk s n p d
@@ -138,10 +140,13 @@ module _ (s : Scheduler) (n p d k : ℕ) (e : k ≡ refusal (openGroup n p d) s)
   pub open-fits : eqb k 0 ≡ true → (p < 256) × (d < 65536)
   open-fits t = let o = opened t in (omega arith, omega arith)
 
-  pub open-done : (a : Answer) → a ≡ cond (eqb k 0) Accepted (Refused k) → (g : Group) → g ≡ cond (eqb k 0) (record { ceiling = d; parent = p; opened = 1 }) (groupAt s (n % 16))
+  abbrev new : Group
+  new = record { ceiling = d; parent = p; opened = 1 }
+
+  pub open-done : (a : Answer) → a ≡ cond (eqb k 0) Accepted (Refused k) → (g : Group) → g ≡ cond (eqb k 0) new (groupAt s (n % 16))
       → answered a (withGroup s (n % 16) g) ≡ answeredTo (openGroup n p d) s
   unfolding isDispatch effect
-  open-done a q g u = group-done (openGroup n p d) s n k (record { ceiling = d; parent = p; opened = 1 }) refl refl e (λ t. (opened t) .small) a q g u
+  open-done a q g u = group-done (openGroup n p d) s n k new refl refl e (λ t. (opened t) .small) a q g u
 
 module _ (s : Scheduler) (n k : ℕ) (e : k ≡ refusal (closeGroup n) s) where
   closed : eqb k 0 ≡ true → n < 16
@@ -165,7 +170,9 @@ module _ (s : Scheduler) (n g f k : ℕ) (e : k ≡ refusal (admit n g f) s) whe
     admits = admit-ok s n g f (ok .1)
 
     pub admit-fits : (s .settings .thousandth ≤ 1000) × (g < 256) × (f ≤ 1000)
-    admit-fits = ((settings-facts (s .settings) ((facts s (ok .0)) .settings)) .1, omega (arith, open-small s g (admits .opened)), admits .at-most)
+    admit-fits =
+        let m = settings-facts (s .settings) ((facts s (ok .0)) .settings) in
+        (m .1, omega (arith, open-small s g (admits .opened)), admits .at-most)
 
     -- the list has room, since the thread does not stand in it
     pub admit-room : s .count < 64
@@ -184,7 +191,8 @@ module _ (s : Scheduler) (n g f k : ℕ) (e : k ≡ refusal (admit n g f) s) whe
 
     entered-old : eqb k 0 ≡ false → entered s (n % 64) t (s .count % 64) o j ≡ s
     entered-old b =
-        let same : entered s (n % 64) t (s .count % 64) o j ≡ stateOf (s .threads) (s .order) (s .groups) (s .meter) (s .settings) (s .count) (s .running) =
+        let old = stateOf (s .threads) (s .order) (s .groups) (s .meter) (s .settings) (s .count) (s .running) in
+        let same : entered s (n % 64) t (s .count % 64) o j ≡ old =
         cc (set-getD (s .threads) (n % 64) noThread, set-getD (s .order) (s .count % 64) 0) in
         same
 

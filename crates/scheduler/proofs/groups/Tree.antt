@@ -50,12 +50,14 @@ below-none xs used g l = record {
 }
 
 -- a group of the table is a child
-under-child : (xs : List Group) (s : Scheduler) → s .groups ≡ xs → (g c : ℕ) → g < c → c < 16 → (ltb g c && childOf s g c) ≡ underOf (getD xs c noGroup) g
+under-child : (xs : List Group) (s : Scheduler) → s .groups ≡ xs → (g c : ℕ) → g < c → c < 16
+    → (ltb g c && childOf s g c) ≡ underOf (getD xs c noGroup) g
 under-child xs s e g c l m = rw (lt-ltb g c l) (sym (child-is xs s e g c (omega arith) m))
 
 module _ (xs : List Group) (used : List ℕ) (g c total : ℕ) (k : Below xs used g c total) where
   module _ (l : c < 16) where
-    pub below-add : (v : ℕ) → underOf (getD xs c noGroup) g ≡ true → ((s : Scheduler) → s .groups ≡ xs → Sums s used → v ≡ subtreeTotal s c) → Below xs used g (c + 1) (total + v)
+    pub below-add : (v : ℕ) → underOf (getD xs c noGroup) g ≡ true
+        → ((s : Scheduler) → s .groups ≡ xs → Sums s used → v ≡ subtreeTotal s c) → Below xs used g (c + 1) (total + v)
     below-add v u q = record {
       least = omega (arith, k .least);
       most = omega arith;
@@ -75,15 +77,20 @@ module _ (xs : List Group) (used : List ℕ) (g c total : ℕ) (k : Below xs use
 
     -- the child's own subtree
     pub below-child : Rooted xs used g → underOf (getD xs c noGroup) g ≡ true → Rooted xs used c
-    below-child z u = record {
-      state = z .state;
-      fine = z .fine;
-      same = z .same;
-      sums = z .sums;
-      opened = holds (openAt (z .state) c) (sym (open-near xs (z .state) (z .same) c l) ∙ is (isOpen (getD xs c noGroup)) (and-l (isOpen (getD xs c noGroup)) _ (holds (underOf (getD xs c noGroup) g) u)));
-    }
+    below-child z u =
+        let x = getD xs c noGroup in
+        record {
+          state = z .state;
+          fine = z .fine;
+          same = z .same;
+          sums = z .sums;
+          opened =
+              holds (openAt (z .state) c)
+              (sym (open-near xs (z .state) (z .same) c l) ∙ is (isOpen x) (and-l (isOpen x) _ (holds (underOf x g) u)));
+        }
 
-    pub below-most : Rooted xs used g → (v : ℕ) → underOf (getD xs c noGroup) g ≡ true → ((s : Scheduler) → s .groups ≡ xs → Sums s used → v ≡ subtreeTotal s c) → total + v ≤ 1000
+    pub below-most : Rooted xs used g → (v : ℕ) → underOf (getD xs c noGroup) g ≡ true
+        → ((s : Scheduler) → s .groups ≡ xs → Sums s used → v ≡ subtreeTotal s c) → total + v ≤ 1000
     below-most z v u q =
         let s = z .state in
         let f = facts s (z .fine) in

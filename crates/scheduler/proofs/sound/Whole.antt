@@ -20,6 +20,7 @@ use Rattle.base.proofs.Sums.{everyBelow-at, everyBelow-of}
 use Rattle.scheduler.specs.declared.Settings.{Settings}
 use Rattle.scheduler.specs.declared.Scheduler.{Scheduler}
 use Rattle.scheduler.specs.State.{threadAt, admittedAt, reservedAt, runnableAt, listed}
+use Rattle.scheduler.specs.State.{meterLimit, meterMost, sliceMost}
 use Rattle.scheduler.specs.Sound.{settingsOk, groupsOk, threadOk, listOk, runningOk, shapeOk, sound}
 use Rattle.scheduler.specs.Inner.{entryOk}
 use Rattle.scheduler.proofs.Scheduler as scheduler
@@ -103,7 +104,7 @@ module _ (s : Scheduler) where
 
   pub record Runs : Type 0 where
     pub number : T (leb (s .running) 64)
-    pub early : T (idle || ltb (s .meter) 10000000000000)
+    pub early : T (idle || ltb (s .meter) meterLimit)
     pub runnable : T runs
 
   runs-of : T (runningOk s) → Runs
@@ -119,7 +120,7 @@ module _ (s : Scheduler) where
       let n : Bool = ltb (s .running) 64 in
       let a : Bool = admittedAt s (s .running) in
       let r : Bool = runnableAt s (s .running) in
-      let m : Bool = ltb (s .meter) 10000000000000 in
+      let m : Bool = ltb (s .meter) meterLimit in
       let all : T (n && a && r && m) = subst (λ (b : Bool). T (b || (n && a && r && m))) e z in
       let front = and-l (n && a && r) m all in
       record {
@@ -131,10 +132,10 @@ module _ (s : Scheduler) where
   running-of : Runs → T (runningOk s)
   unfolding runningOk runnableAt admittedAt
   running-of k =
-      by (λ b. T (b || (ltb (s .running) 64 && admittedAt s (s .running) && runnableAt s (s .running) && ltb (s .meter) 10000000000000))) idle
+      by (λ b. T (b || (ltb (s .running) 64 && admittedAt s (s .running) && runnableAt s (s .running) && ltb (s .meter) meterLimit))) idle
       (λ e. tt)
       (λ e.
-      let m : Bool = ltb (s .meter) 10000000000000 in
+      let m : Bool = ltb (s .meter) meterLimit in
       let one : T (runnableAt s (s .running)) = subst (λ (b : Bool). T (b || runnableAt s (s .running))) e (k .runnable) in
       let status : (threadAt s (s .running)) .status ≡ 1 = eqb→eq ((threadAt s (s .running)) .status) 1 one in
       let below : s .running < 64 = omega (arith, leb→le (s .running) 64 (k .number), eqb-false (s .running) 64 e) in
@@ -144,7 +145,7 @@ module _ (s : Scheduler) where
 
   pub record Parts : Type 0 where
     pub settings : settingsOk (s .settings) ≡ true
-    pub meter : (leb (s .meter) 10000001000000 && leb (s .running) 64 && (idle || ltb (s .meter) 10000000000000)) ≡ true
+    pub meter : (leb (s .meter) meterMost && leb (s .running) 64 && (idle || ltb (s .meter) meterLimit)) ≡ true
     pub few : s .count ≤ 64
     pub list : (low && distinct (listed s)) ≡ true
     pub threads : (entries && runs) ≡ true
@@ -156,9 +157,9 @@ module _ (s : Scheduler) where
       let few : Bool = leb (s .count) 64 in
       let once : Bool = distinct (listed s) in
       let list : Bool = few && held && once in
-      let most : Bool = leb (s .meter) 10000001000000 in
+      let most : Bool = leb (s .meter) meterMost in
       let number : Bool = leb (s .running) 64 in
-      let early : Bool = idle || ltb (s .meter) 10000000000000 in
+      let early : Bool = idle || ltb (s .meter) meterLimit in
       let rest : Bool = shapeOk s && settingsOk (s .settings) && groupsOk s && threads && list && runningOk s in
       let q = out (shapeOk s) (settingsOk (s .settings)) (groupsOk s) threads list (runningOk s) (and-l rest most z) in
       let all = and-r few held (and-l (few && held) once (q .4)) in
@@ -178,9 +179,9 @@ module _ (s : Scheduler) where
       let few : Bool = leb (s .count) 64 in
       let once : Bool = distinct (listed s) in
       let list : Bool = few && held && once in
-      let most : Bool = leb (s .meter) 10000001000000 in
+      let most : Bool = leb (s .meter) meterMost in
       let number : Bool = leb (s .running) 64 in
-      let early : Bool = idle || ltb (s .meter) 10000000000000 in
+      let early : Bool = idle || ltb (s .meter) meterLimit in
       let meter = holds (most && number && early) (k .meter) in
       let limits = and-l (most && number) early meter in
       let pass = holds (entries && runs) (k .threads) in
@@ -210,14 +211,14 @@ pub settings-most : (k : Settings) → settingsOk k ≡ true → k .thousandth �
 unfolding settingsOk within
 settings-most k e =
     let m : Bool = within 1 1000 (k .thousandth) in
-    leb→le (k .thousandth) 1000 (and-r (leb 1 (k .thousandth)) (leb (k .thousandth) 1000) (and-l m (within 1 1000000 (k .interval)) (holds (settingsOk k) e)))
+    leb→le (k .thousandth) 1000 (and-r (leb 1 (k .thousandth)) (leb (k .thousandth) 1000) (and-l m (within 1 sliceMost (k .interval)) (holds (settingsOk k) e)))
 
 pub running-most : (s : Scheduler)
-    → (leb (s .meter) 10000001000000 && leb (s .running) 64 && (eqb (s .running) 64 || ltb (s .meter) 10000000000000)) ≡ true → s .running ≤ 64
+    → (leb (s .meter) meterMost && leb (s .running) 64 && (eqb (s .running) 64 || ltb (s .meter) meterLimit)) ≡ true → s .running ≤ 64
 running-most s e =
-    let most : Bool = leb (s .meter) 10000001000000 in
+    let most : Bool = leb (s .meter) meterMost in
     let number : Bool = leb (s .running) 64 in
-    let early : Bool = eqb (s .running) 64 || ltb (s .meter) 10000000000000 in
+    let early : Bool = eqb (s .running) 64 || ltb (s .meter) meterLimit in
     leb→le (s .running) 64 (and-r most number (and-l (most && number) early (holds (most && number && early) e)))
 
 -- The tables are as long as their types say, from what owning the state tells.

@@ -18,7 +18,7 @@ use Rattle.scheduler.specs.declared.Scheduler.{Scheduler}
 use Rattle.scheduler.specs.declared.Answer.{Answer}
 use Rattle.scheduler.specs.declared.Answer.the-variants.{Refused, Idle, Run}
 use Rattle.scheduler.specs.declared.Answered.{Answered}
-use Rattle.scheduler.specs.State.{threadAt, runnableAt, reservedAt, allotmentAt, sliceAt, listed, withRun}
+use Rattle.scheduler.specs.State.{threadAt, runnableAt, reservedAt, allotmentAt, sliceAt, listed, withRun, meterLimit}
 use Rattle.scheduler.specs.Sound.{sound}
 use Rattle.scheduler.specs.Refusals.{dispatch, checks, refusal}
 use Rattle.scheduler.specs.Effects.{chosen, passedOver, effect}
@@ -33,13 +33,15 @@ pub entry : (s : Scheduler) → Facts s → (i : ℕ) → i < s .count → getD 
 unfolding listed
 entry s k i h =
     let b : i < length (listed s) = omega (arith, length-listed s k) in
-    let t : T (ltb (getD (take (s .count) (s .order)) i 0) 64) = and-l (ltb (getD (listed s) i 0) 64) _ (everyOf-entry (λ n. ltb n 64 && reservedAt s n) (listed s) i (k .members) b) in
+    let m = everyOf-entry (λ n. ltb n 64 && reservedAt s n) (listed s) i (k .members) b in
+    let t : T (ltb (getD (take (s .count) (s .order)) i 0) 64) = and-l (ltb (getD (listed s) i 0) 64) _ m in
     ltb→lt (getD (s .order) i 0) 64 (rw (getD-take (s .count) (s .order) i 0 h) at t)
 
 pub dispatch-number : (s : Scheduler) (ok : Bool) → ok ≡ sound s
-    → firstOf ((not ok ⇒ 16) ∷ (not (eqb (s .running) 64) ⇒ 12) ∷ (leb 10000000000000 (s .meter) ⇒ 15) ∷ []) ≡ refusal dispatch s
+    → firstOf ((not ok ⇒ 16) ∷ (not (eqb (s .running) 64) ⇒ 12) ∷ (leb meterLimit (s .meter) ⇒ 15) ∷ []) ≡ refusal dispatch s
 unfolding refusal checks
-dispatch-number s ok e = ap (λ (b : Bool). firstOf ((not b ⇒ 16) ∷ (not (eqb (s .running) 64) ⇒ 12) ∷ (leb 10000000000000 (s .meter) ⇒ 15) ∷ [])) e
+dispatch-number s ok e =
+    ap (λ (b : Bool). firstOf ((not b ⇒ 16) ∷ (not (eqb (s .running) 64) ⇒ 12) ∷ (leb meterLimit (s .meter) ⇒ 15) ∷ [])) e
 
 -- the answer where x is chosen
 abbrev taking : Scheduler → ℕ → Answered
@@ -137,8 +139,10 @@ module _ (s : Scheduler) (k : ℕ) (e : k ≡ refusal dispatch s) (count : ℕ) 
       let at : i % 64 ≡ i = omega (arith, look-most) in
       let same : getD (s .order) (i % 64) 0 % 64 ≡ x = ap (λ (j : ℕ). getD (s .order) j 0 % 64) at ∙ omega (arith, look-small i l) in
       let run : running ≡ x = qr ∙ rw y same in
-      let cut : slice ≡ min ((threadAt s x) .allotment) (s .settings .interval) = qs ∙ ap (λ (j : ℕ). min ((threadAt s j) .allotment) (s .settings .interval)) same in
-      let taken : a ≡ Run x (min ((threadAt s x) .allotment) (s .settings .interval)) i = qa ∙ rw (z, y) (ap (λ (j : ℕ). Run j slice i) same ∙ ap (λ (j : ℕ). Run x j i) cut) in
+      let cut : slice ≡ min ((threadAt s x) .allotment) (s .settings .interval) =
+      qs ∙ ap (λ (j : ℕ). min ((threadAt s j) .allotment) (s .settings .interval)) same in
+      let taken : a ≡ Run x (min ((threadAt s x) .allotment) (s .settings .interval)) i =
+      qa ∙ rw (z, y) (ap (λ (j : ℕ). Run j slice i) same ∙ ap (λ (j : ℕ). Run x j i) cut) in
       ap (λ (j : ℕ). answered a (withRun s j (s .meter))) run ∙ dispatch-run s r i over (omega (arith, all)) a taken)
       (λ y.
       let run : running ≡ s .running = qr ∙ rw y in

@@ -21,7 +21,8 @@ use Rattle.scheduler.specs.declared.Scheduler.{Scheduler}
 use Rattle.scheduler.specs.declared.Answer.{Answer}
 use Rattle.scheduler.specs.declared.Answer.the-variants.{Accepted, Refused, Idle, Run}
 use Rattle.scheduler.specs.declared.Answered.{Answered}
-use Rattle.scheduler.specs.State.{noThread, threadAt, admittedAt, blockedAt, isAdmitted, isBlocked, listed, sliceAt, stateOf, withThread, withList}
+use Rattle.scheduler.specs.State.{noThread, threadAt, admittedAt, blockedAt, isAdmitted, isBlocked, listed, sliceAt, stateOf}
+use Rattle.scheduler.specs.State.{withThread, withList}
 use Rattle.scheduler.specs.Sound.{sound}
 use Rattle.scheduler.specs.Refusals.{Call, wake, remove, checks, refusal, startRefusal}
 use Rattle.scheduler.specs.Effects.{rear, offList, wokenThread, chosen, passedOver, effect, started, unstarted}
@@ -35,8 +36,12 @@ answered a s = record { answer = a; state = s }
 
 -- The numbers of what a call answers are those of `step`.
 
+-- the answer to an accepted call that is a dispatch or not, idle or not
+abbrev taken : Scheduler → Bool → Bool → Answer
+taken s d i = cond d (cond i (Idle (passedOver s)) (Run (chosen s) (sliceAt s (chosen s)) (passedOver s))) Accepted
+
 accept-numbers : (c : Call) (s : Scheduler) (d i : Bool) → isDispatch c ≡ d → eqb (chosen s) 64 ≡ i
-    → numbersOf (cond d (cond i (Idle (passedOver s)) (Run (chosen s) (sliceAt s (chosen s)) (passedOver s))) Accepted) (effect c s) ≡ accept c s
+    → numbersOf (taken s d i) (effect c s) ≡ accept c s
 unfolding numbersOf accept
 accept-numbers c s false i e f = rw e
 accept-numbers c s true true e f = rw (e, eqb-true (chosen s) 64 f)
@@ -46,7 +51,9 @@ pub answer-numbers : (c : Call) (s : Scheduler) → replyOf (answeredTo c s) ≡
 unfolding replyOf answeredTo answerTo acceptedAnswer numbersOf step refuse accept
 answer-numbers c s =
     let k = refusal c s in
-    by (λ b. numbersOf (cond b (acceptedAnswer c s) (Refused k)) ((cond b (accept c s) (refuse k s)) .state) ≡ cond b (accept c s) (refuse k s)) (eqb k 0)
+    let done = accept c s in
+    let kept = refuse k s in
+    by (λ b. numbersOf (cond b (acceptedAnswer c s) (Refused k)) ((cond b done kept) .state) ≡ cond b done kept) (eqb k 0)
     (λ _. accept-numbers c s (isDispatch c) (eqb (chosen s) 64) refl refl)
     (λ _. refl)
 
@@ -74,12 +81,14 @@ answered-accepted c s e = rw e
 pub refused : (c : Call) (s : Scheduler) (k : ℕ) → k ≡ refusal c s → (k ≡ 0 → ⊥) → answered (Refused k) s ≡ answeredTo c s
 refused c s k e ne = ap (λ (j : ℕ). answered (Refused j) s) e ∙ sym (answered-refused c s (λ z. ne (e ∙ z)))
 
-pub accepted : (c : Call) (s s′ : Scheduler) → isDispatch c ≡ false → refusal c s ≡ 0 → s′ ≡ effect c s → answered Accepted s′ ≡ answeredTo c s
+pub accepted : (c : Call) (s s′ : Scheduler) → isDispatch c ≡ false → refusal c s ≡ 0 → s′ ≡ effect c s
+    → answered Accepted s′ ≡ answeredTo c s
 unfolding acceptedAnswer
 accepted c s s′ d e q = ap (answered Accepted) q ∙ sym (answered-accepted c s e ∙ rw d)
 
 -- a call that is no dispatch, with the answer of its number: without a refusal the state is the effect's, and with one it is the same
-pub settled : (c : Call) (s s′ : Scheduler) → isDispatch c ≡ false → (k : ℕ) → k ≡ refusal c s → (a : Answer) → a ≡ cond (eqb k 0) Accepted (Refused k)
+pub settled : (c : Call) (s s′ : Scheduler) → isDispatch c ≡ false → (k : ℕ) → k ≡ refusal c s
+    → (a : Answer) → a ≡ cond (eqb k 0) Accepted (Refused k)
     → (eqb k 0 ≡ true → refusal c s ≡ 0 → s′ ≡ effect c s) → (eqb k 0 ≡ false → s′ ≡ s) → answered a s′ ≡ answeredTo c s
 settled c s s′ d k e a q f g =
     cases (eqb k 0)
@@ -103,7 +112,9 @@ pub looked-up : (s : Scheduler) (n : ℕ) (more : Thread → ℕ)
 looked-up s n more =
     cases (ltb 63 n)
     (λ e. rw e)
-    (λ e. ap (λ (j : ℕ). cond (ltb 63 n || not (isAdmitted (threadAt s j))) 7 (more (threadAt s j))) (rest n (omega (arith, ltb-false 63 n e))))
+    (λ e.
+    let at : n % 64 ≡ n = rest n (omega (arith, ltb-false 63 n e)) in
+    ap (λ (j : ℕ). cond (ltb 63 n || not (isAdmitted (threadAt s j))) 7 (more (threadAt s j))) at)
 
 -- what the list gives an admitted thread
 pub record Listed (s : Scheduler) (n : ℕ) : Type 0 where
@@ -128,18 +139,24 @@ is-listed s k n a =
 -- Remove and wake.
 
 module _ (s : Scheduler) (n : ℕ) where
-  pub wake-number : (ok : Bool) → ok ≡ sound s
-      → firstOf ((not ok ⇒ 16) ∷ (ltb 63 n || not (isAdmitted (threadAt s (n % 64))) ⇒ 7) ∷ (not (isBlocked (threadAt s (n % 64))) ⇒ 10) ∷ []) ≡ refusal (wake n) s
+  -- the entry that the call looks at
+  abbrev entry : Thread
+  entry = threadAt s (n % 64)
+
+  pub wake-number : (ok : Bool) → ok ≡ sound s → (k : ℕ)
+      → k ≡ firstOf ((not ok ⇒ 16) ∷ (ltb 63 n || not (isAdmitted entry) ⇒ 7) ∷ (not (isBlocked entry) ⇒ 10) ∷ []) → k ≡ refusal (wake n) s
   unfolding refusal checks firstOf admittedAt blockedAt
-  wake-number ok e =
-      ap (λ (b : Bool). cond (not b) 16 (cond (ltb 63 n || not (isAdmitted (threadAt s (n % 64)))) 7 (cond (not (isBlocked (threadAt s (n % 64)))) 10 0))) e
+  wake-number ok e k q =
+      q
+      ∙ ap (λ (b : Bool). cond (not b) 16 (cond (ltb 63 n || not (isAdmitted entry)) 7 (cond (not (isBlocked entry)) 10 0))) e
       ∙ ap (λ (k : ℕ). cond (not (sound s)) 16 k) (looked-up s n (λ t. cond (not (isBlocked t)) 10 0))
 
-  pub remove-number : (ok : Bool) → ok ≡ sound s
-      → firstOf ((not ok ⇒ 16) ∷ (ltb 63 n || not (isAdmitted (threadAt s (n % 64))) ⇒ 7) ∷ (eqb (s .running) n ⇒ 9) ∷ []) ≡ refusal (remove n) s
+  pub remove-number : (ok : Bool) → ok ≡ sound s → (k : ℕ)
+      → k ≡ firstOf ((not ok ⇒ 16) ∷ (ltb 63 n || not (isAdmitted entry) ⇒ 7) ∷ (eqb (s .running) n ⇒ 9) ∷ []) → k ≡ refusal (remove n) s
   unfolding refusal checks firstOf admittedAt
-  remove-number ok e =
-      ap (λ (b : Bool). cond (not b) 16 (cond (ltb 63 n || not (isAdmitted (threadAt s (n % 64)))) 7 (cond (eqb (s .running) n) 9 0))) e
+  remove-number ok e k q =
+      q
+      ∙ ap (λ (b : Bool). cond (not b) 16 (cond (ltb 63 n || not (isAdmitted entry)) 7 (cond (eqb (s .running) n) 9 0))) e
       ∙ ap (λ (k : ℕ). cond (not (sound s)) 16 k) (looked-up s n (λ t. cond (eqb (s .running) n) 9 0))
 
   module _ (e : refusal (remove n) s ≡ 0) where
@@ -148,42 +165,51 @@ module _ (s : Scheduler) (n : ℕ) where
         let ok = passes (remove n) s e in
         is-listed s (facts s (ok .0)) n ((remove-passed s n (ok .1)) .0)
 
+  -- a list with a thread moved to its rear; a state with the entry at j, the list and its length replaced
+  abbrev requeued : ℕ → List ℕ
+  requeued j = requeue j (take (s .count) (s .order)) ++ drop (s .count) (s .order)
+
+  abbrev changed : ℕ → Thread → List ℕ → ℕ → Scheduler
+  changed j t list count = stateOf (set (s .threads) j t) list (s .groups) (s .meter) (s .settings) count (s .running)
+
+  -- the same entry again
+  same : changed (n % 64) entry (s .order) (s .count) ≡ s
+  same =
+      ap (λ (l : List Thread). stateOf l (s .order) (s .groups) (s .meter) (s .settings) (s .count) (s .running))
+      (set-getD (s .threads) (n % 64) noThread)
+
   -- the state of a removal that is accepted or not
   abbrev removal : Bool → Scheduler
-  removal b =
-      stateOf (set (s .threads) (n % 64) (cond b noThread (threadAt s (n % 64)))) (cond b (requeue (n % 64) (take (s .count) (s .order)) ++ drop (s .count) (s .order)) (s .order))
-      (s .groups) (s .meter) (s .settings) (cond b (s .count - 1) (s .count)) (s .running)
+  removal b = changed (n % 64) (cond b noThread entry) (cond b (requeued (n % 64)) (s .order)) (cond b (s .count - 1) (s .count))
 
   pub remove-done : (k : ℕ) → k ≡ refusal (remove n) s → (a : Answer) → a ≡ cond (eqb k 0) Accepted (Refused k)
-      → (t : Thread) → t ≡ cond (eqb k 0) noThread (threadAt s (n % 64))
-      → (list : List ℕ) → list ≡ cond (eqb k 0) (requeue (n % 64) (take (s .count) (s .order)) ++ drop (s .count) (s .order)) (s .order)
+      → (t : Thread) → t ≡ cond (eqb k 0) noThread entry
+      → (list : List ℕ) → list ≡ cond (eqb k 0) (requeued (n % 64)) (s .order)
       → (count : ℕ) → count ≡ cond (eqb k 0) (s .count - 1) (s .count)
-      → answered a (stateOf (set (s .threads) (n % 64) t) list (s .groups) (s .meter) (s .settings) count (s .running)) ≡ answeredTo (remove n) s
+      → answered a (changed (n % 64) t list count) ≡ answeredTo (remove n) s
   unfolding effect isDispatch offList withList withThread rear listed
   remove-done k e a q t qt list ql count qc =
-      let s′ = stateOf (set (s .threads) (n % 64) t) list (s .groups) (s .meter) (s .settings) count (s .running) in
-      let is : s′ ≡ removal (eqb k 0) = rw (qt, ql, qc) in
-      settled (remove n) s s′ refl k e a q
+      let is : changed (n % 64) t list count ≡ removal (eqb k 0) = rw (qt, ql, qc) in
+      settled (remove n) s (changed (n % 64) t list count) refl k e a q
       (λ z r.
       let w = remove-listed r in
       is
       ∙ ap removal z
-      ∙ ap (λ (j : ℕ). stateOf (set (s .threads) j noThread) (requeue j (take (s .count) (s .order)) ++ drop (s .count) (s .order)) (s .groups) (s .meter) (s .settings) (s .count - 1) (s .running)) (w .at)
-      ∙ ap (λ (o : List ℕ). stateOf (set (s .threads) n noThread) o (s .groups) (s .meter) (s .settings) (s .count - 1) (s .running)) (w .moved))
-      (λ z. is ∙ ap removal z ∙ ap (λ (l : List Thread). stateOf l (s .order) (s .groups) (s .meter) (s .settings) (s .count) (s .running)) (set-getD (s .threads) (n % 64) noThread))
+      ∙ ap (λ (j : ℕ). changed j noThread (requeued j) (s .count - 1)) (w .at)
+      ∙ ap (λ (o : List ℕ). changed n noThread o (s .count - 1)) (w .moved))
+      (λ z. is ∙ ap removal z ∙ same)
 
   pub wake-done : (k : ℕ) → k ≡ refusal (wake n) s → (a : Answer) → a ≡ cond (eqb k 0) Accepted (Refused k)
-      → (t : Thread) → t ≡ cond (eqb k 0) (wokenThread s (threadAt s (n % 64))) (threadAt s (n % 64))
+      → (t : Thread) → t ≡ cond (eqb k 0) (wokenThread s entry) entry
       → answered a (withThread s (n % 64) t) ≡ answeredTo (wake n) s
   unfolding effect isDispatch withThread
   wake-done k e a q t qt =
       settled (wake n) s (withThread s (n % 64) t) refl k e a q
       (λ z r.
       let ok = passes (wake n) s r in
-      let w : t ≡ wokenThread s (threadAt s (n % 64)) = qt ∙ rw z in
-      ap (withThread s (n % 64)) w
-      ∙ ap (λ (j : ℕ). withThread s j (wokenThread s (threadAt s j))) (rest n ((facts s (ok .0)) .small n (wake-passed s n (ok .1)))))
+      let low = (facts s (ok .0)) .small n (wake-passed s n (ok .1)) in
+      let w : t ≡ wokenThread s entry = qt ∙ rw z in
+      ap (withThread s (n % 64)) w ∙ ap (λ (j : ℕ). withThread s j (wokenThread s (threadAt s j))) (rest n low))
       (λ z.
-      let w : t ≡ threadAt s (n % 64) = qt ∙ rw z in
-      ap (withThread s (n % 64)) w
-      ∙ ap (λ (l : List Thread). stateOf l (s .order) (s .groups) (s .meter) (s .settings) (s .count) (s .running)) (set-getD (s .threads) (n % 64) noThread))
+      let w : t ≡ entry = qt ∙ rw z in
+      ap (withThread s (n % 64)) w ∙ same)

@@ -17,6 +17,7 @@ use Rattle.scheduler.specs.declared.Scheduler.{Scheduler}
 use Rattle.scheduler.specs.declared.Answer.{Answer}
 use Rattle.scheduler.specs.declared.Answer.the-variants.{Accepted, Refused}
 use Rattle.scheduler.specs.State.{noThread, threadAt, sliceAt, allotmentAt, listed, stateOf, withThread, withList, withRun}
+use Rattle.scheduler.specs.State.{meterMost, sliceMost}
 use Rattle.scheduler.specs.Sound.{sound}
 use Rattle.scheduler.specs.Refusals.{report, checks, refusal}
 use Rattle.scheduler.specs.Effects.{rear, toRear, offList, renewed, chargedThread, charged, exited, reported, effect}
@@ -29,36 +30,41 @@ use Rattle.scheduler.proofs.threads.Replies.{answered, settled, rest, L
 -- The number.
 
 module _ (s : Scheduler) (reason used : ℕ) where
-  -- the checks, with the slice of the thread at j
-  abbrev numberAt : Bool → ℕ → ℕ
-  numberAt ok j = firstOf ((not ok ⇒ 16) ∷ (eqb (s .running) 64 ⇒ 11) ∷ (ltb 3 reason ⇒ 14) ∷ (ltb (min ((threadAt s j) .allotment) (s .settings .interval)) used ⇒ 13) ∷ [])
+  -- where the running thread is looked up, and the slice of the thread at j
+  abbrev place : ℕ
+  place = s .running % 64
 
-  at-rest : numberAt (sound s) (s .running % 64) ≡ numberAt (sound s) (s .running)
+  abbrev slice : ℕ → ℕ
+  slice j = min ((threadAt s j) .allotment) (s .settings .interval)
+
+  -- the checks
+  abbrev numberAt : Bool → ℕ → ℕ
+  numberAt ok v = firstOf ((not ok ⇒ 16) ∷ (eqb (s .running) 64 ⇒ 11) ∷ (ltb 3 reason ⇒ 14) ∷ (ltb v used ⇒ 13) ∷ [])
+
+  at-rest : numberAt (sound s) (slice place) ≡ numberAt (sound s) (slice (s .running))
   unfolding firstOf
   at-rest =
       cases (sound s)
       (λ w. cases (eqb (s .running) 64)
       (λ z. rw z)
-      (λ z. ap (numberAt (sound s)) (rest (s .running) (((facts s (holds (sound s) w)) .run (eqb-false (s .running) 64 z)) .small))))
+      (λ z.
+      let low = ((facts s (holds (sound s) w)) .run (eqb-false (s .running) 64 z)) .small in
+      ap (λ (j : ℕ). numberAt (sound s) (slice j)) (rest (s .running) low)))
       (λ w. rw w)
 
-  pub report-number : (ok : Bool) → ok ≡ sound s → (slice : ℕ) → slice ≡ min ((threadAt s (s .running % 64)) .allotment) (s .settings .interval)
-      → firstOf ((not ok ⇒ 16) ∷ (eqb (s .running) 64 ⇒ 11) ∷ (ltb 3 reason ⇒ 14) ∷ (ltb slice used ⇒ 13) ∷ []) ≡ refusal (report reason used) s
+  pub report-number : (ok : Bool) → ok ≡ sound s → (v : ℕ) → v ≡ slice place → numberAt ok v ≡ refusal (report reason used) s
   unfolding refusal checks sliceAt allotmentAt
-  report-number ok e slice q =
-      ap (λ (v : ℕ). firstOf ((not ok ⇒ 16) ∷ (eqb (s .running) 64 ⇒ 11) ∷ (ltb 3 reason ⇒ 14) ∷ (ltb v used ⇒ 13) ∷ [])) q
-      ∙ ap (λ (b : Bool). numberAt b (s .running % 64)) e
-      ∙ at-rest
+  report-number ok e v q = ap (numberAt ok) q ∙ ap (λ (b : Bool). numberAt b (slice place)) e ∙ at-rest
 
   -- What soundness gives an accepted report.
 
   pub record Ready : Type 0 where
     pub list : Listed s (s .running)
     pub thousandth : s .settings .thousandth ≤ 1000
-    pub short : used ≤ 1000000
-    pub meter : s .meter ≤ 10000001000000
-    pub ticks : (threadAt s (s .running % 64)) .ticks ≤ 10000001000000
-    pub since : (threadAt s (s .running % 64)) .since ≤ 10000001000000
+    pub short : used ≤ sliceMost
+    pub meter : s .meter ≤ meterMost
+    pub ticks : (threadAt s place) .ticks ≤ meterMost
+    pub since : (threadAt s place) .since ≤ meterMost
 
   module _ (e : refusal (report reason used) s ≡ 0) where
     pub ready : Ready
@@ -76,22 +82,35 @@ module _ (s : Scheduler) (reason used : ℕ) where
           thousandth = z .1;
           short = omega (arith, p .1, z .3);
           meter = k .meter;
-          ticks = subst (λ (j : ℕ). (threadAt s j) .ticks ≤ 10000001000000) (sym (l .at)) (omega (arith, t .charged, k .meter));
-          since = subst (λ (j : ℕ). (threadAt s j) .since ≤ 10000001000000) (sym (l .at)) (omega (arith, t .since, k .meter));
+          ticks = subst (λ (j : ℕ). (threadAt s j) .ticks ≤ meterMost) (sym (l .at)) (omega (arith, t .charged, k .meter));
+          since = subst (λ (j : ℕ). (threadAt s j) .since ≤ meterMost) (sym (l .at)) (omega (arith, t .since, k .meter));
         }
 
   -- The new state.
 
+  -- the thread at j after the report, whether it goes to the rear, and the list with it there
+  abbrev leaves : ℕ → Thread
+  leaves j = cond (eqb reason 3) noThread (chargedThread s reason used (threadAt s j))
+
+  abbrev moving : ℕ → Bool
+  moving j = eqb reason 3 || renewed reason used (threadAt s j)
+
+  abbrev requeued : ℕ → List ℕ
+  requeued j = requeue j (take (s .count) (s .order)) ++ drop (s .count) (s .order)
+
+  -- the state with what a report writes
+  abbrev wrote : ℕ → Thread → List ℕ → ℕ → ℕ → ℕ → Scheduler
+  wrote j t list meter count running = stateOf (set (s .threads) j t) list (s .groups) meter (s .settings) count running
+
   -- the state of a report that is accepted or not
   abbrev after : Bool → Scheduler
   after b =
-      stateOf (set (s .threads) (s .running % 64) (cond b (cond (eqb reason 3) noThread (chargedThread s reason used (threadAt s (s .running % 64)))) (threadAt s (s .running % 64))))
-      (cond (b && (eqb reason 3 || renewed reason used (threadAt s (s .running % 64)))) (requeue (s .running % 64) (take (s .count) (s .order)) ++ drop (s .count) (s .order)) (s .order))
-      (s .groups) (cond b (s .meter + used) (s .meter)) (s .settings) (cond (b && eqb reason 3) (s .count - 1) (s .count)) (cond b 64 (s .running))
+      wrote place (cond b (leaves place) (threadAt s place)) (cond (b && moving place) (requeued place) (s .order))
+      (cond b (s .meter + used) (s .meter)) (cond (b && eqb reason 3) (s .count - 1) (s .count)) (cond b 64 (s .running))
 
   ended : (exit full : Bool)
-      → stateOf (set (s .threads) (s .running) (cond exit noThread (chargedThread s reason used (threadAt s (s .running))))) (cond (exit || full) (rear s (s .running)) (s .order))
-      (s .groups) (s .meter + used) (s .settings) (cond exit (s .count - 1) (s .count)) 64
+      → wrote (s .running) (cond exit noThread (chargedThread s reason used (threadAt s (s .running))))
+      (cond (exit || full) (rear s (s .running)) (s .order)) (s .meter + used) (cond exit (s .count - 1) (s .count)) 64
       ≡ cond exit (exited (s .running) used s)
       (cond full (toRear (s .running) (charged (s .running) reason used s)) (charged (s .running) reason used s))
   unfolding exited toRear offList charged withList withRun withThread rear listed
@@ -100,28 +119,30 @@ module _ (s : Scheduler) (reason used : ℕ) where
   ended false false = refl
 
   pub report-done : (k : ℕ) → k ≡ refusal (report reason used) s → (a : Answer) → a ≡ cond (eqb k 0) Accepted (Refused k)
-      → (t : Thread) → t ≡ cond (eqb k 0) (cond (eqb reason 3) noThread (chargedThread s reason used (threadAt s (s .running % 64)))) (threadAt s (s .running % 64))
-      → (moves : Bool) → moves ≡ (eqb reason 3 || renewed reason used (threadAt s (s .running % 64)))
-      → (list : List ℕ) → list ≡ cond (eqb k 0 && moves) (requeue (s .running % 64) (take (s .count) (s .order)) ++ drop (s .count) (s .order)) (s .order)
+      → (t : Thread) → t ≡ cond (eqb k 0) (leaves place) (threadAt s place)
+      → (moves : Bool) → moves ≡ moving place
+      → (list : List ℕ) → list ≡ cond (eqb k 0 && moves) (requeued place) (s .order)
       → (meter : ℕ) → meter ≡ cond (eqb k 0) (s .meter + used) (s .meter)
       → (count : ℕ) → count ≡ cond (eqb k 0 && eqb reason 3) (s .count - 1) (s .count)
       → (running : ℕ) → running ≡ cond (eqb k 0) 64 (s .running)
-      → answered a (stateOf (set (s .threads) (s .running % 64) t) list (s .groups) meter (s .settings) count running) ≡ answeredTo (report reason used) s
+      → answered a (wrote place t list meter count running) ≡ answeredTo (report reason used) s
   unfolding effect isDispatch reported
   report-done k e a q t qt moves qv list ql meter qm count qc running qr =
-      let s′ = stateOf (set (s .threads) (s .running % 64) t) list (s .groups) meter (s .settings) count running in
-      let same : list ≡ cond (eqb k 0 && (eqb reason 3 || renewed reason used (threadAt s (s .running % 64)))) (requeue (s .running % 64) (take (s .count) (s .order)) ++ drop (s .count) (s .order)) (s .order)
-      = ql ∙ rw qv in
+      let s′ = wrote place t list meter count running in
+      let fewer = cond (eqb reason 3) (s .count - 1) (s .count) in
+      let same : list ≡ cond (eqb k 0 && moving place) (requeued place) (s .order) = ql ∙ rw qv in
       let is : s′ ≡ after (eqb k 0) = rw (qt, same, qm, qc, qr) in
       settled (report reason used) s s′ refl k e a q
       (λ z r.
       let w = ready r .list in
       is
       ∙ ap after z
-      ∙ ap (λ (j : ℕ). stateOf (set (s .threads) j (cond (eqb reason 3) noThread (chargedThread s reason used (threadAt s j))))
-      (cond (eqb reason 3 || renewed reason used (threadAt s j)) (requeue j (take (s .count) (s .order)) ++ drop (s .count) (s .order)) (s .order)) (s .groups) (s .meter + used)
-      (s .settings) (cond (eqb reason 3) (s .count - 1) (s .count)) 64) (w .at)
-      ∙ ap (λ (o : List ℕ). stateOf (set (s .threads) (s .running) (cond (eqb reason 3) noThread (chargedThread s reason used (threadAt s (s .running)))))
-      (cond (eqb reason 3 || renewed reason used (threadAt s (s .running))) o (s .order)) (s .groups) (s .meter + used) (s .settings) (cond (eqb reason 3) (s .count - 1) (s .count)) 64) (w .moved)
+      ∙ ap (λ (j : ℕ). wrote j (leaves j) (cond (moving j) (requeued j) (s .order)) (s .meter + used) fewer 64) (w .at)
+      ∙ ap (λ (o : List ℕ). wrote (s .running) (leaves (s .running)) (cond (moving (s .running)) o (s .order)) (s .meter + used) fewer 64)
+      (w .moved)
       ∙ ended (eqb reason 3) (renewed reason used (threadAt s (s .running))))
-      (λ z. is ∙ ap after z ∙ ap (λ (l : List Thread). stateOf l (s .order) (s .groups) (s .meter) (s .settings) (s .count) (s .running)) (set-getD (s .threads) (s .running % 64) noThread))
+      (λ z.
+      is
+      ∙ ap after z
+      ∙ ap (λ (l : List Thread). stateOf l (s .order) (s .groups) (s .meter) (s .settings) (s .count) (s .running))
+      (set-getD (s .threads) place noThread))

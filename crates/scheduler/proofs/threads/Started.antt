@@ -8,7 +8,7 @@ use Rattle.base.specs.Checks.{within}
 use Rattle.base.proofs.Bools.{and-r}
 use Rattle.scheduler.specs.declared.Scheduler.{Scheduler}
 use Rattle.scheduler.specs.declared.Answer.the-variants.{Accepted, Refused}
-use Rattle.scheduler.specs.State.{stateOf}
+use Rattle.scheduler.specs.State.{stateOf, sliceMost}
 use Rattle.scheduler.specs.Refusals.{startRefusal}
 use Rattle.scheduler.specs.Effects.{started, unstarted}
 use Rattle.scheduler.specs.Rule.{refuse, startReply}
@@ -17,11 +17,11 @@ use Rattle.scheduler.proofs.Passed.{start-passed}
 use Rattle.scheduler.proofs.threads.Replies.{answered}
 
 module _ (m p : ℕ) where
-  pub start-bounds : startRefusal m p ≡ 0 → (m ≤ 1000) × (p ≤ 1000000)
+  pub start-bounds : startRefusal m p ≡ 0 → (m ≤ 1000) × (p ≤ sliceMost)
   unfolding within
   start-bounds e =
       let b = start-passed m p e in
-      (leb→le m 1000 (and-r (leb 1 m) (leb m 1000) (b .0)), leb→le p 1000000 (and-r (leb 1 p) (leb p 1000000) (b .1)))
+      (leb→le m 1000 (and-r (leb 1 m) (leb m 1000) (b .0)), leb→le p sliceMost (and-r (leb 1 p) (leb p sliceMost) (b .1)))
 
   -- the zeros with the settings, group 0 and no running thread
   abbrev given : Scheduler → Scheduler

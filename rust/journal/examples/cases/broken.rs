@@ -8,6 +8,7 @@
 use journal::codec::{answer, kind, Record};
 use journal::engine::{Engine, Reply};
 use model::rule::{self, Scheduler};
+use model::{blocks, calls};
 
 /// The test model with a fault: refill on wake.
 #[derive(Clone, Debug, Default)]
@@ -15,36 +16,20 @@ pub struct RefillOnWake {
     state: Scheduler,
 }
 
-impl RefillOnWake {
-    fn call(&mut self, r: &Record) -> rule::Reply {
-        let s = &mut self.state;
-        let (subject, group, amount) = (r.subject.into(), r.group.into(), r.amount.into());
-        rule::Reply::plain(match r.kind {
-            kind::OPEN => s.open(subject, group, amount),
-            kind::CLOSE => s.close(subject),
-            kind::ADMIT => s.admit(subject, group, amount),
-            kind::REMOVE => s.remove(subject),
-            kind::WAKE => s.wake(subject),
-            kind::DISPATCH => return s.dispatch(),
-            kind::REPORT => s.report(r.reason.into(), r.ticks.into()),
-            kind::START => match Scheduler::start(amount, r.ticks.into()) {
-                Ok(state) => {
-                    *s = state;
-                    answer::ACCEPTED
-                }
-                Err(refusal) => refusal,
-            },
-            _ => answer::FORM,
-        })
-    }
-}
-
 impl Engine for RefillOnWake {
     const SAYS: &'static str = "NOT the scheduler: answers by a test model with a fault, \
         a wake that fills the allotment. The proved library does not do this.";
 
     fn run(&mut self, r: &Record) -> Reply {
-        let reply = self.call(r);
+        let record = blocks::Record {
+            kind: r.kind,
+            subject: r.subject,
+            group: r.group,
+            reason: r.reason,
+            amount: r.amount,
+            ticks: r.ticks,
+        };
+        let reply = calls::run(&mut self.state, &record);
         if r.kind == kind::WAKE && reply.answer == answer::ACCEPTED {
             // The fault.
             let m = self.state.settings.thousandth;

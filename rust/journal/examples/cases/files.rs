@@ -4,7 +4,7 @@ use std::fmt::Write as _;
 use std::io::{self, Write as _};
 use std::path::{Path, PathBuf};
 
-use journal::draw::{draw, Options};
+use journal::draw::{draw, Options, WIDTH};
 use journal::engine::{Engine, Proved};
 use journal::names::Names;
 use journal::playback::Journal;
@@ -54,7 +54,10 @@ fn zoom() -> View {
     }
 }
 
-fn picture<E: Engine>(journal: &[u8], title: &str, view: View) -> String {
+/// Width of the three pictures that stand side by side.
+pub const NARROW: u32 = 460;
+
+fn picture<E: Engine>(journal: &[u8], title: &str, view: View, width: u32) -> String {
     let mut names = Names::default();
     for (n, name) in (0u8..).zip(NAMES) {
         names.give(n, name);
@@ -63,6 +66,7 @@ fn picture<E: Engine>(journal: &[u8], title: &str, view: View) -> String {
         title: Some(title.into()),
         names,
         view,
+        width,
     };
     let whole = Journal::whole(journal);
     match draw::<E>(whole, &options, &mut Progress::silent()) {
@@ -75,7 +79,7 @@ fn picture<E: Engine>(journal: &[u8], title: &str, view: View) -> String {
 /// The exporter beside readout by the broken rule, run and drawn by it.
 pub fn broken_picture() -> String {
     let journal = play::<RefillOnWake>(Server::Jittery, LENGTH).journal();
-    picture::<RefillOnWake>(&journal, BROKEN, View::default())
+    picture::<RefillOnWake>(&journal, BROKEN, View::default(), NARROW)
 }
 
 fn names() -> String {
@@ -111,12 +115,14 @@ pub fn files() -> Vec<(PathBuf, Vec<u8>)> {
         let _ = text::decode(whole, &mut lines, &mut Progress::silent());
 
         let name = case.name;
-        let svg = picture::<Proved>(&journal, case.title, View::default());
+        let svg = picture::<Proved>(&journal, case.title, View::default(), NARROW);
         files.push((here.join(format!("examples/{name}.txt")), lines));
         files.push((root.join(format!("docs/{name}.svg")), svg.into()));
         if case.server == Server::Jittery {
-            let svg = picture::<Proved>(&journal, ZOOM, zoom());
-            files.push((root.join("docs/zoom.svg"), svg.into()));
+            let all = picture::<Proved>(&journal, case.title, View::default(), WIDTH);
+            let part = picture::<Proved>(&journal, ZOOM, zoom(), WIDTH);
+            files.push((root.join("docs/journal.svg"), all.into()));
+            files.push((root.join("docs/zoom.svg"), part.into()));
         }
         files.push((journals.join(format!("{name}.blocks")), journal));
     }

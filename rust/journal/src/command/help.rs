@@ -156,6 +156,7 @@ journal's calls by the proved library.
 
 Options:
   --title TEXT        the picture's title; else the name of FILE
+  --width N           the picture's width in pixels, 360 to 4000; else 1120
 {VIEW}{FIRST}{OUTPUT}"
     )
 }

@@ -4,7 +4,7 @@ use std::ffi::OsString;
 use std::path::PathBuf;
 
 use journal::codec::THREADS;
-use journal::draw::Options;
+use journal::draw::{Options, WIDTHS};
 use journal::track::Mark;
 
 use super::{help, Stop};
@@ -200,6 +200,13 @@ impl Job {
             ("--pack", Command::Encode) => self.pack = true,
             ("--csv", Command::Stats) => self.csv = true,
             ("--refusals", Command::Stats) => self.refusals = true,
+            ("--width", Command::Draw) => {
+                let width = option.number(WIDTHS.1.into())? as u32;
+                if width < WIDTHS.0 {
+                    return usage(format!("--width: the least is {}", WIDTHS.0));
+                }
+                self.options.width = width;
+            }
             ("--title", Command::Draw) => self.options.title = Some(option.text()?),
             ("--names", c) if c.looks() => self.names = Some(PathBuf::from(option.value()?)),
             ("--from", c) if c.looks() => view.from = option.mark()?,

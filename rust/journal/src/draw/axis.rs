@@ -6,7 +6,7 @@ use crate::scale::{number, step, unit};
 use crate::track::At;
 
 use super::picture::Picture;
-use super::svg::{width, Anchor, C};
+use super::svg::{fit, width, Anchor, C};
 
 impl Picture<'_> {
     /// Times of the axis, with their place and label.
@@ -17,7 +17,10 @@ impl Picture<'_> {
             return vec![(self.layout.left, number(s.from.time as f64 / 1e3, 3))];
         }
         let unit = unit(total);
-        let step = step(total / unit.ticks, 12.0);
+        let step = step(
+            total / unit.ticks,
+            (self.layout.plot / 70.0).clamp(2.0, 12.0),
+        );
         let decimals = (-step.log10().floor()).max(0.0) as usize;
         let first = (s.from.time as f64 / unit.ticks / step).ceil() as u64;
         let mut out = Vec::new();
@@ -97,6 +100,7 @@ impl Picture<'_> {
             format!("processor time, the meter ({unit})")
         };
         let middle = left + plot / 2.0;
+        let text = fit(&text, 11.0, 2.0 * middle.min(self.layout.width - middle));
         self.svg
             .text(middle, y + 36.0, Anchor::Middle, "small", &text);
     }

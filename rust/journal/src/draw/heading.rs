@@ -1,14 +1,12 @@
 //! The picture's head: style, title, what the journal holds, what the shapes
 //! mean.
 
-use std::fmt::Write;
-
 use crate::scale::{count, counted, duration, exact};
+use crate::track::Survey;
 
-use super::layout::WIDTH;
 use super::picture::{cross, Picture};
-use super::svg::{escape, fit, width, Anchor, Svg, C};
-use super::Detail;
+use super::svg::{escape, fit, width, wrap, Anchor, C};
+use super::{Detail, Options};
 
 const STYLE: &str = "\
 text{font-family:'Helvetica Neue',Helvetica,Arial,'Liberation Sans','DejaVu Sans',sans-serif;font-size:12px;fill:#24292f}
@@ -20,7 +18,7 @@ text{font-family:'Helvetica Neue',Helvetica,Arial,'Liberation Sans','DejaVu Sans
 .code{font-size:10px;fill:#a23f00}
 .number{font-weight:bold;fill:#a23f00}
 .flag{font-size:11px;fill:#8a3a6a}
-.paper{fill:#ffffff}
+.back{fill:#ffffff}
 .grid{stroke:#e4e7eb;stroke-width:1;fill:none}
 .axis{stroke:#8c959f;stroke-width:1;fill:none}
 .group{stroke:#8c959f;stroke-width:1.5;fill:none}
@@ -41,59 +39,177 @@ text{font-family:'Helvetica Neue',Helvetica,Arial,'Liberation Sans','DejaVu Sans
 .bound{stroke:#d55e00;stroke-width:1.5;stroke-dasharray:6 4;fill:none}
 ";
 
-impl Picture<'_> {
-    /// What the journal, or the part shown, holds.
-    fn facts(&self) -> String {
-        let s = self.survey;
-        let mut facts = Vec::new();
-        if self.options.view.is_part() {
-            facts.push(format!(
-                "part from {} to {}",
-                exact(s.from.time),
-                exact(s.to.time)
-            ));
-            if let Some((first, last)) = s.numbers {
-                facts.push(format!("records {} to {}", count(first), count(last)));
-            }
-        } else {
-            let blocks = counted(s.tally.blocks, "block");
-            facts.push(format!("{} in {blocks}", counted(s.records, "record")));
-            facts.push(format!("{} of processor time", duration(s.time() as f64)));
+/// What the shapes mean.
+#[derive(Clone, Copy, Debug, PartialEq, Eq)]
+enum Sign {
+    Run,
+    Blocked,
+    Wait,
+    Wake,
+    Refusal,
+    Gap,
+    /// Words alone, on heights that are enlarged.
+    Heights,
+}
+
+impl Sign {
+    /// Width of its shape.
+    fn wide(self) -> f64 {
+        match self {
+            Sign::Wake | Sign::Refusal => 10.0,
+            Sign::Heights => 0.0,
+            _ => 18.0,
         }
-        facts.push(if s.one_setting {
-            format!("m {}, P {}", count(s.settings.0), count(s.settings.1))
-        } else {
-            "settings change".to_string()
-        });
-        if s.starts > 1 {
-            facts.push(counted(s.starts, "start"));
-        }
-        match s.idle {
-            0 => {}
-            1 => facts.push("1 idle dispatch".into()),
-            n => facts.push(format!("{} idle dispatches", count(n))),
-        }
-        if s.refused() > 0 {
-            facts.push(counted(s.refused(), "refusal"));
-        }
-        if s.tally.damaged > 0 {
-            facts.push(format!("{} damaged", counted(s.tally.damaged, "block")));
-        }
-        if s.skipped > 0 {
-            facts.push(format!("{} not run", counted(s.skipped, "record")));
-        }
-        facts.join(" \u{b7} ")
     }
 
+    /// Thinned out, the heights of who has the core are enlarged so many times.
+    fn words(self, s: &Survey, thin: bool, times: u32) -> String {
+        match (self, thin) {
+            (Sign::Run, _) => "has the core".into(),
+            (Sign::Blocked, _) => "blocked".into(),
+            (Sign::Wait, _) => "runnable, waits".into(),
+            (Sign::Wake, false) => "wake".into(),
+            (Sign::Wake, true) => "wakes".into(),
+            (Sign::Refusal, false) => "refusal, with its number (words below)".into(),
+            (Sign::Refusal, true) => "refusals (words below)".into(),
+            (Sign::Gap, _) => match s.gaps.iter().any(|gap| gap.refusal.is_none()) {
+                true => "missing or damaged blocks, up to the next start".into(),
+                false => "damaged block, up to the next start".into(),
+            },
+            (Sign::Heights, _) => match times {
+                0 | 1 => "(heights: parts of the time)".into(),
+                n => format!("(heights: parts of the time, core \u{d7} {n})"),
+            },
+        }
+    }
+}
+
+/// The picture's head, laid out.
+#[derive(Clone, Debug)]
+pub struct Head {
+    /// The title in up to two lines.
+    title: Vec<String>,
+    facts: Vec<String>,
+    /// Signs with their places.
+    signs: Vec<(Sign, f64, f64)>,
+    /// The lowest base line.
+    pub bottom: f64,
+}
+
+impl Head {
+    pub fn new(s: &Survey, options: &Options, detail: Detail, total: f64) -> Head {
+        let room = total - 32.0;
+        let mut title = wrap(title(options), 19.0, room);
+        if title.len() > 2 {
+            let rest = title.split_off(1).join(" ");
+            title.push(fit(&rest, 19.0, room));
+        }
+        let mut lines: Vec<String> = Vec::new();
+        for fact in facts(s, options.view.is_part()) {
+            match lines.last_mut() {
+                Some(line) if width(&format!("{line} \u{b7} {fact}"), 12.0) <= room => {
+                    line.push_str(" \u{b7} ");
+                    line.push_str(&fact);
+                }
+                _ => lines.push(fact),
+            }
+        }
+        let thin = detail == Detail::Thin;
+        let above = 40.0 + 24.0 * title.len() as f64;
+        let (mut x, mut y) = (16.0, above + 16.0 * lines.len() as f64);
+        let mut places = Vec::new();
+        for sign in signs(s, thin) {
+            let w = sign.wide() + 6.0 + width(&sign.words(s, thin, 50), 12.0);
+            if x + w > total - 8.0 && x > 16.0 {
+                (x, y) = (16.0, y + 18.0);
+            }
+            places.push((sign, x, y));
+            x += w + 16.0;
+        }
+        Head {
+            title,
+            facts: lines,
+            signs: places,
+            bottom: y,
+        }
+    }
+}
+
+fn title(options: &Options) -> &str {
+    options.title.as_deref().unwrap_or("Journal")
+}
+
+/// What the journal, or the part shown, holds.
+fn facts(s: &Survey, part: bool) -> Vec<String> {
+    let mut facts = Vec::new();
+    if part {
+        let (from, to) = (exact(s.from.time), exact(s.to.time));
+        facts.push(format!("part from {from} to {to}"));
+        if let Some((first, last)) = s.numbers {
+            facts.push(format!("records {} to {}", count(first), count(last)));
+        }
+    } else {
+        let blocks = counted(s.tally.blocks, "block");
+        facts.push(format!("{} in {blocks}", counted(s.records, "record")));
+        facts.push(format!("{} of processor time", duration(s.time() as f64)));
+    }
+    facts.push(match s.one_setting {
+        true => format!("m {}, P {}", count(s.settings.0), count(s.settings.1)),
+        false => "settings change".to_string(),
+    });
+    if s.starts > 1 {
+        facts.push(counted(s.starts, "start"));
+    }
+    match s.idle {
+        0 => {}
+        1 => facts.push("1 idle dispatch".into()),
+        n => facts.push(format!("{} idle dispatches", count(n))),
+    }
+    if s.refused() > 0 {
+        facts.push(counted(s.refused(), "refusal"));
+    }
+    if s.tally.damaged > 0 {
+        facts.push(format!("{} damaged", counted(s.tally.damaged, "block")));
+    }
+    if s.skipped > 0 {
+        facts.push(format!("{} not run", counted(s.skipped, "record")));
+    }
+    facts
+}
+
+/// The signs that occur.
+fn signs(s: &Survey, thin: bool) -> Vec<Sign> {
+    let mut signs = Vec::new();
+    if s.admitted().next().is_some() {
+        signs.extend([Sign::Run, Sign::Blocked, Sign::Wait]);
+    }
+    if s.threads.iter().any(|t| t.wakes > 0) {
+        signs.push(Sign::Wake);
+    }
+    if !s.refusals.is_empty() {
+        signs.push(Sign::Refusal);
+    }
+    if !s.gaps.is_empty() {
+        signs.push(Sign::Gap);
+    }
+    if thin {
+        signs.push(Sign::Heights);
+    }
+    signs
+}
+
+impl Picture<'_> {
     pub(super) fn open(&mut self) {
-        let title = self.options.title.as_deref().unwrap_or("Journal");
-        let facts = self.facts();
-        let height = self.layout.height;
+        let title = title(self.options);
+        let (total, height) = (self.layout.width, self.layout.height);
         self.svg.put(format_args!(
-            "<svg xmlns=\"http://www.w3.org/2000/svg\" width=\"{WIDTH}\" height=\"{}\" viewBox=\"0 0 {WIDTH} {}\" role=\"img\">",
+            "<svg xmlns=\"http://www.w3.org/2000/svg\" width=\"{}\" height=\"{}\" viewBox=\"0 0 {} {}\" role=\"img\">",
+            C(total),
             C(height),
+            C(total),
             C(height)
         ));
+        let facts = self.head.facts.join(" \u{b7} ");
         self.svg
             .put(format_args!("<title>{}</title>", escape(title)));
         self.svg
@@ -102,74 +218,44 @@ impl Picture<'_> {
         self.svg.put(format_args!(
             "<defs><pattern id=\"damage\" width=\"7\" height=\"7\" patternUnits=\"userSpaceOnUse\" patternTransform=\"rotate(45)\"><rect width=\"7\" height=\"7\" fill=\"#fbf1f7\"/><path class=\"damage\" d=\"M1 0V7\"/></pattern></defs>"
         ));
-        self.svg.rect("paper", 0.0, 0.0, WIDTH, height);
-        let shown = fit(title, 19.0, WIDTH - 32.0);
-        self.svg.text(16.0, 32.0, Anchor::Start, "title", &shown);
-        self.svg.text(16.0, 53.0, Anchor::Start, "quiet", &facts);
+        self.svg.rect("back", 0.0, 0.0, total, height);
+        let mut y = 32.0;
+        for line in &self.head.title {
+            self.svg.text(16.0, y, Anchor::Start, "title", line);
+            y += 24.0;
+        }
+        y -= 3.0;
+        for line in &self.head.facts {
+            self.svg.text(16.0, y, Anchor::Start, "quiet", line);
+            y += 16.0;
+        }
     }
 
-    /// What the shapes mean; only those that occur. Thinned out, the heights of
-    /// who has the core are enlarged so many times.
+    /// What the shapes mean; only those that occur.
     pub(super) fn legend(&mut self, times: u32) {
-        let s = self.survey;
-        let y = 80.0;
-        let mut x = 16.0;
-        let svg = &mut self.svg;
-        let mut item = |w: f64, text: &str, shape: &dyn Fn(&mut Svg, f64)| {
-            shape(svg, x);
-            svg.text(x + w + 6.0, y, Anchor::Start, "quiet", text);
-            x += w + 6.0 + width(text, 12.0) + 16.0;
-        };
-        let exact = self.detail != Detail::Thin;
-        if s.admitted().next().is_some() {
-            item(18.0, "has the core", &|svg, x| {
-                svg.rect("run", x, y - 10.0, 18.0, 12.0)
-            });
-            item(18.0, "blocked", &|svg, x| {
-                svg.rect("blocked", x, y - 8.0, 18.0, 8.0)
-            });
-            item(18.0, "runnable, waits", &|svg, x| match exact {
-                true => svg.path("wait", &format!("M{} {}h18", C(x), C(y - 4.0))),
-                false => svg.rect("here", x, y - 10.0, 18.0, 12.0),
-            });
-        }
-        if s.threads.iter().any(|t| t.wakes > 0) {
-            let text = if exact { "wake" } else { "wakes" };
-            item(10.0, text, &|svg, x| {
-                let shape = match self.detail {
-                    Detail::Exact { roomy: true, .. } => "l4 7h-8z",
-                    Detail::Exact { .. } => "h1.5v7h-1.5z",
-                    Detail::Thin => "m-5 7v-4h3v-3h3v4h3v-2h3v5z",
-                };
-                svg.path("wake", &format!("M{} {}{shape}", C(x + 5.0), C(y - 7.5)));
-            });
-        }
-        if !s.refusals.is_empty() {
-            let text = match exact {
-                true => "refusal, with its number (words below)",
-                false => "refusals (words below)",
-            };
-            item(10.0, text, &|svg, x| {
-                svg.path("refusal", &cross(x + 5.0, y - 4.0))
-            });
-        }
-        if !s.gaps.is_empty() {
-            let missing = s.gaps.iter().any(|gap| gap.refusal.is_none());
-            let text = match missing {
-                true => "missing or damaged blocks, up to the next start",
-                false => "damaged block, up to the next start",
-            };
-            item(18.0, text, &|svg, x| {
-                svg.rect("gap", x, y - 10.0, 18.0, 12.0)
-            });
-        }
-        if !exact {
-            let mut note = "(heights: parts of the time".to_string();
-            if times > 1 {
-                let _ = write!(note, ", core \u{d7} {times}");
+        let thin = self.detail == Detail::Thin;
+        for &(sign, x, y) in &self.head.signs {
+            let svg = &mut self.svg;
+            match sign {
+                Sign::Run => svg.rect("run", x, y - 10.0, 18.0, 12.0),
+                Sign::Blocked => svg.rect("blocked", x, y - 8.0, 18.0, 8.0),
+                Sign::Wait if thin => svg.rect("here", x, y - 10.0, 18.0, 12.0),
+                Sign::Wait => svg.path("wait", &format!("M{} {}h18", C(x), C(y - 4.0))),
+                Sign::Wake => {
+                    let shape = match self.detail {
+                        Detail::Exact { roomy: true, .. } => "l4 7h-8z",
+                        Detail::Exact { .. } => "h1.5v7h-1.5z",
+                        Detail::Thin => "m-5 7v-4h3v-3h3v4h3v-2h3v5z",
+                    };
+                    svg.path("wake", &format!("M{} {}{shape}", C(x + 5.0), C(y - 7.5)));
+                }
+                Sign::Refusal => svg.path("refusal", &cross(x + 5.0, y - 4.0)),
+                Sign::Gap => svg.rect("gap", x, y - 10.0, 18.0, 12.0),
+                Sign::Heights => {}
             }
-            note.push(')');
-            item(0.0, &note, &|_, _| {});
+            let text = sign.words(self.survey, thin, times);
+            let x = x + sign.wide() + 6.0;
+            self.svg.text(x, y, Anchor::Start, "quiet", &text);
         }
     }
 }

@@ -4,7 +4,7 @@ use crate::scale::{count, counted, exact};
 
 use super::layout::{MOST_WORDS, WORDS};
 use super::picture::Picture;
-use super::svg::Anchor;
+use super::svg::{fit, Anchor};
 
 impl Picture<'_> {
     /// A line for each number and its words: how often, and where first.
@@ -33,7 +33,8 @@ impl Picture<'_> {
                 n => format!("{} times, first at record {}", count(n), count(r.record)),
             };
             let text = format!("{words}: {times}, {}", exact(r.at));
-            self.svg.text(44.0, y, Anchor::Start, "quiet", &text);
+            let shown = fit(&text, 12.0, l.width - 52.0);
+            self.svg.titled(44.0, y, "quiet", &shown, &text);
         }
     }
 }

@@ -3,7 +3,7 @@
 use crate::scale::duration;
 
 use super::exact::Exact;
-use super::layout::{Panel, MARGIN, RIGHT};
+use super::layout::{Panel, MARGIN};
 use super::picture::Picture;
 use super::svg::{fit, width, Anchor, C};
 use super::thin::{self, Thin};
@@ -40,15 +40,13 @@ impl Picture<'_> {
 
     pub(super) fn panel_labels(&mut self) {
         let l = self.layout;
-        self.svg.text(
-            16.0,
-            l.heading,
-            Anchor::Start,
-            "heading",
-            "Lag: processor time owed to a thread since its admission, last wake or yield; below 0 it is ahead",
-        );
-        let y = l.heading + 20.0;
-        let mut x = l.left;
+        let mut y = l.heading;
+        for line in &l.headings {
+            self.svg.text(16.0, y, Anchor::Start, "heading", line);
+            y += 20.0;
+        }
+        let y = l.legend;
+        let mut x = MARGIN;
         self.svg
             .path("lag", &format!("M{} {}h18", C(x), C(y - 4.0)));
         let lag = match self.detail {
@@ -59,14 +57,22 @@ impl Picture<'_> {
         x += 24.0 + width(lag, 12.0) + 20.0;
         self.svg
             .path("bound", &format!("M{} {}h26", C(x), C(y - 4.0)));
-        let mut text =
-            "most by the share guarantee, (2f(1000 \u{2212} f)m + fP) / 1000".to_string();
-        if l.panels.iter().any(|panel| panel.squeezed()) {
-            text.push_str("; scale below 0 narrowed");
-        }
-        self.svg.text(x + 32.0, y, Anchor::Start, "quiet", &text);
-        self.svg
-            .text(RIGHT + 14.0, y, Anchor::Start, "small", "largest");
+        let squeezed = match l.panels.iter().any(|panel| panel.squeezed()) {
+            true => "; scale below 0 narrowed",
+            false => "",
+        };
+        let formula = "most by the share guarantee, (2f(1000 \u{2212} f)m + fP) / 1000";
+        let room = l.right - x - 32.0;
+        let text = [
+            format!("{formula}{squeezed}"),
+            "most by the share guarantee".into(),
+            "most by guarantee".into(),
+        ];
+        let fits = |text: &&String| width(text, 12.0) <= room;
+        let text = text.iter().find(fits).unwrap_or(&text[2]);
+        self.svg.text(x + 32.0, y, Anchor::Start, "quiet", text);
+        let x = l.right + 14.0;
+        self.svg.text(x, y, Anchor::Start, "small", "largest");
         for panel in &l.panels {
             self.panel_label(panel);
         }
@@ -104,6 +110,6 @@ impl Picture<'_> {
             false => "name",
         };
         self.svg
-            .titled(RIGHT + 14.0, middle, class, &largest, &title);
+            .titled(l.right + 14.0, middle, class, &largest, &title);
     }
 }

@@ -7,7 +7,7 @@ use crate::track::{End, Gap};
 use crate::words;
 
 use super::exact::{Cross, Exact};
-use super::layout::{Heading, Lane, INDENT, MARGIN, REFUSALS, RIGHT, WIDTH};
+use super::layout::{Heading, Lane, INDENT, MARGIN, REFUSALS};
 use super::picture::{cross, Picture};
 use super::svg::{bold, escape, fit, width, Anchor, C};
 use super::thin::{self, Thin};
@@ -147,13 +147,13 @@ impl Picture<'_> {
         for (i, (x, texts, class)) in labels.iter().enumerate() {
             // A text but the shortest leaves the next one room for its own
             // shortest but one.
-            let next = labels.get(i + 1).map_or(WIDTH - 8.0, |(x, texts, _)| {
+            let next = labels.get(i + 1).map_or(l.width - 8.0, |(x, texts, _)| {
                 let short = &texts[texts.len().saturating_sub(2)];
                 x - width(short, 11.0) / 2.0 - 8.0
             });
             for (k, text) in texts.iter().enumerate() {
                 let half = width(text, 11.0) / 2.0;
-                let centre = x.max(l.left - 30.0 + half).min(WIDTH - 12.0 - half);
+                let centre = x.max(l.left - 30.0 + half).min(l.width - 12.0 - half);
                 let last = k + 1 == texts.len();
                 if centre - half > free && (last || centre + half < next) {
                     self.svg.text(centre, l.flags, Anchor::Middle, class, text);
@@ -183,7 +183,7 @@ impl Picture<'_> {
                 true => "share here",
                 false => "share",
             };
-            let x = RIGHT + 14.0;
+            let x = l.right + 14.0;
             self.svg.text(x, head, Anchor::Start, small, share);
         }
         for lane in &l.lanes {
@@ -193,7 +193,7 @@ impl Picture<'_> {
             let y = top + 13.0;
             self.svg.text(MARGIN, y, Anchor::Start, "name", "refusals");
             let refusals = count(self.survey.refused());
-            let x = RIGHT + 14.0;
+            let x = l.right + 14.0;
             self.svg.text(x, y, Anchor::Start, "name", &refusals);
         }
     }
@@ -220,7 +220,7 @@ impl Picture<'_> {
         let share = format!("{} \u{2030}", t.share);
         let (word, how) = ending(t.end);
         let title = format!("share of {told}, {how}: {share}");
-        let x = RIGHT + 14.0;
+        let x = l.right + 14.0;
         self.svg.titled(x, y, "name", &share, &title);
         if !word.is_empty() {
             let x = x + bold(&share, 12.0) + 4.0;

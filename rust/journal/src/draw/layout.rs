@@ -2,15 +2,17 @@
 
 use crate::codec::GROUPS;
 use crate::names::Names;
-use crate::track::{At, Survey};
+use crate::track::{At, End, Survey};
 
-use super::svg::bold;
+use super::svg::{bold, wrap};
 
-/// Width of the picture, and where its plots end.
-pub const WIDTH: f64 = 1120.0;
-pub const RIGHT: f64 = 1010.0;
-/// Where the plots begin, at the least and at the most, by the names' length.
-const LEFT: (f64, f64) = (170.0, 330.0);
+/// Widths that a picture may have, and the one it has.
+pub const WIDTHS: (u32, u32) = (360, 4000);
+pub const WIDTH: u32 = 1120;
+/// Where the plots begin at the least, and at the most in parts of the width.
+const LEFT: (f64, f64) = (120.0, 0.4);
+/// From the plots' end to that of the picture, also with words after shares.
+const RIGHT: (f64, f64) = (84.0, 110.0);
 /// Where labels begin, and what a lane's reservation takes beside its name.
 pub const MARGIN: f64 = 16.0;
 const RESERVED: f64 = 66.0;
@@ -90,8 +92,10 @@ pub struct Layout {
     from: At,
     per_tick: f64,
     pub gap: f64,
-    /// Where the plots begin, and how wide they are.
+    pub width: f64,
+    /// Where the plots begin and end, and how wide they are.
     pub left: f64,
+    pub right: f64,
     pub plot: f64,
     /// Lines of labels above the lanes, for starts and damaged blocks.
     pub flags: f64,
@@ -102,15 +106,19 @@ pub struct Layout {
     pub refusals: Option<f64>,
     /// The lanes' lower edge.
     pub axis: f64,
-    /// Base line of the lag plots' heading.
+    /// Base line of the lag plots' heading, its lines, and base line of what
+    /// the plots' lines mean.
     pub heading: f64,
+    pub headings: Vec<String>,
+    pub legend: f64,
     pub panels: Vec<Panel>,
     /// The lag plots' lower edge.
     pub floor: f64,
     /// Base line of the refusals' heading.
     pub key: f64,
-    /// Base line of the last line.
+    /// Base line of the last lines, and these.
     pub footer: f64,
+    pub says: Vec<String>,
     pub height: f64,
 }
 
@@ -120,6 +128,9 @@ pub const REFUSALS: f64 = 30.0;
 const PANELS: f64 = 26.0;
 /// From the lanes' lower edge to the end of the axis below it.
 const AXIS: f64 = 42.0;
+/// Over the lag plots.
+const LAGS: &str =
+    "Lag: processor time owed to a thread since its admission, last wake or yield; below 0 it is ahead";
 /// Height of a group's line.
 const GROUP: f64 = 22.0;
 /// Height of a line of words about refusals, and the most of them.
@@ -175,17 +186,18 @@ fn below(survey: &Survey, shown: &[bool; GROUPS], group: u8, depth: usize, rows:
 }
 
 impl Layout {
-    pub fn new(survey: &Survey, names: &Names) -> Layout {
+    /// The layout of a picture of a width below a head that ends somewhere,
+    /// over a sentence.
+    pub fn new(survey: &Survey, names: &Names, width: f64, head: f64, says: &str) -> Layout {
         let rows = rows(survey);
         let threads: Vec<u8> = survey.admitted().collect();
-        let longest = threads.iter().map(|&n| bold(&names.label(n), 12.0));
-        let deepest = rows.iter().map(|row| match row {
-            Row::Group { depth, .. } => (depth + 1) as f64 * INDENT,
-            Row::Thread { .. } => 0.0,
+        let left = left(&rows, &threads, names, width);
+        let words = threads.iter().any(|&n| {
+            let end = survey.threads[n as usize].end;
+            matches!(end, Some(End::Left(_) | End::Restarted(_) | End::Lost))
         });
-        let labels = longest.fold(0.0, f64::max) + deepest.fold(0.0, f64::max);
-        let left = (MARGIN + labels + RESERVED).clamp(LEFT.0, LEFT.1).round();
-        let plot = RIGHT - left;
+        let right = width - if words { RIGHT.1 } else { RIGHT.0 };
+        let plot = right - left;
         let (gap, per_tick) = scale(survey, plot);
 
         let (pitch, bar, panel) = match threads.len() {
@@ -195,8 +207,8 @@ impl Layout {
             _ => (19.0, 9.0, 32.0),
         };
         let flags = match survey.gaps.is_empty() && survey.starts < 2 {
-            true => 104.0,
-            false => 122.0,
+            true => head + 24.0,
+            false => head + 42.0,
         };
         let (groups, lanes, mut y) = stack(&rows, flags + 26.0, pitch, bar);
         if threads.is_empty() {
@@ -209,7 +221,9 @@ impl Layout {
         }
         let axis = y;
         let heading = axis + AXIS + 34.0;
-        let mut y = heading + 34.0;
+        let headings = wrap(LAGS, 14.0, width - 32.0);
+        let legend = heading + 20.0 * headings.len() as f64;
+        let mut y = legend + 14.0;
         let mut panels = Vec::new();
         for lane in &lanes {
             let t = &survey.threads[lane.thread as usize];
@@ -225,11 +239,14 @@ impl Layout {
             lines => lines as f64 * WORDS + 36.0,
         };
         let footer = plots + AXIS + words + 26.0;
+        let says = wrap(says, 11.0, width - 32.0);
         Layout {
             from: survey.from,
             per_tick,
             gap,
+            width,
             left,
+            right,
             plot,
             flags,
             groups,
@@ -238,11 +255,14 @@ impl Layout {
             refusals,
             axis,
             heading,
+            headings,
+            legend,
             panels,
             floor,
             key,
             footer,
-            height: footer + 14.0,
+            height: footer + 14.0 * says.len() as f64,
+            says,
         }
     }
 
@@ -261,6 +281,18 @@ impl Layout {
     pub fn room(&self, x: f64) -> f64 {
         self.left - RESERVED - x + 4.0
     }
+}
+
+/// Where the plots begin, right of the names as far as these have room.
+fn left(rows: &[Row], threads: &[u8], names: &Names, width: f64) -> f64 {
+    let longest = threads.iter().map(|&n| bold(&names.label(n), 12.0));
+    let deepest = rows.iter().map(|row| match row {
+        Row::Group { depth, .. } => (depth + 1) as f64 * INDENT,
+        Row::Thread { .. } => 0.0,
+    });
+    let labels = longest.fold(0.0, f64::max) + deepest.fold(0.0, f64::max);
+    let most = (LEFT.1 * width).min(330.0);
+    (MARGIN + labels + RESERVED).clamp(LEFT.0, most).round()
 }
 
 /// Widths of a gap and of a tick.

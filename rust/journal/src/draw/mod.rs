@@ -24,25 +24,42 @@ use crate::progress::Progress;
 use crate::text::Tally;
 use crate::track::{Survey, Thread, View};
 
+use heading::Head;
 use layout::Layout;
 use picture::Picture;
+use svg::Svg;
+
+pub use layout::{WIDTH, WIDTHS};
 
 /// What a picture shows of a journal, and what it says beside.
-#[derive(Clone, Debug, Default)]
+#[derive(Clone, Debug)]
 pub struct Options {
     pub title: Option<String>,
     pub names: Names,
     pub view: View,
+    /// Pixels, within [`WIDTHS`].
+    pub width: u32,
 }
 
-/// Drawn span by span up to so many spans or wakes a thread, refusals, starts
-/// or gaps, and so many spans in all.
+impl Default for Options {
+    fn default() -> Self {
+        Options {
+            title: None,
+            names: Names::default(),
+            view: View::default(),
+            width: WIDTH,
+        }
+    }
+}
+
+/// Drawn span by span, in the usual width, up to so many spans or wakes a
+/// thread, refusals, starts or gaps, and up to so many spans in all.
 const FEW: u64 = 400;
 const FEW_IN_ALL: u64 = 4000;
 /// Up to so many spans in all each says what it is when pointed at.
 const FEW_TITLES: u64 = 400;
-/// Up to so many wakes a thread each has a triangle.
-const FEW_WAKES: u64 = 100;
+/// A wake has a triangle where the thread's have so many pixels each.
+const WAKE: u64 = 10;
 
 /// A picture, and what blocks the journal has.
 #[derive(Clone, Debug, PartialEq, Eq)]
@@ -60,9 +77,20 @@ pub fn draw<E: Engine>(
     progress.doing("running");
     let window = options.view.locate::<E>(journal, progress)?;
     let survey = options.view.survey::<E>(journal, &window, progress)?;
-    let layout = Layout::new(&survey, &options.names);
+    let width = f64::from(options.width.clamp(WIDTHS.0, WIDTHS.1));
+    let detail = Detail::of(&survey, options.width);
+    let head = Head::new(&survey, options, detail, width);
+    let layout = Layout::new(&survey, &options.names, width, head.bottom, E::SAYS);
     progress.doing("drawing");
-    let picture = Picture::new(&survey, &layout, options, &window);
+    let picture = Picture {
+        survey: &survey,
+        head: &head,
+        layout: &layout,
+        options,
+        window: &window,
+        detail,
+        svg: Svg::default(),
+    };
     Ok(Drawing {
         svg: picture.whole::<E>(journal, progress),
         tally: survey.tally,
@@ -79,15 +107,16 @@ enum Detail {
 }
 
 impl Detail {
-    fn of(s: &Survey) -> Detail {
+    fn of(s: &Survey, width: u32) -> Detail {
         let most = |count: fn(&Thread) -> u64| s.threads.iter().map(count).max();
         let spans: u64 = s.threads.iter().map(|t| t.spans).sum();
         let marks = s.refused().max(s.starts).max(s.gaps.len() as u64);
-        if most(|t| t.spans.max(t.wakes)) > Some(FEW) || spans > FEW_IN_ALL || marks > FEW {
+        let few = FEW * u64::from(width) / u64::from(WIDTH);
+        if most(|t| t.spans.max(t.wakes)) > Some(few) || spans > FEW_IN_ALL || marks > few {
             return Detail::Thin;
         }
         Detail::Exact {
-            roomy: most(|t| t.wakes) <= Some(FEW_WAKES),
+            roomy: most(|t| t.wakes) <= Some(u64::from(width) / WAKE),
             titles: spans <= FEW_TITLES,
         }
     }

@@ -6,6 +6,7 @@ use crate::progress::Progress;
 use crate::track::{track, Clip, Survey, Window};
 
 use super::exact::Exact;
+use super::heading::Head;
 use super::layout::Layout;
 use super::svg::{Anchor, Svg};
 use super::thin::Thin;
@@ -14,6 +15,7 @@ use super::{Detail, Options};
 /// A picture being put together.
 pub struct Picture<'a> {
     pub survey: &'a Survey,
+    pub head: &'a Head,
     pub layout: &'a Layout,
     pub options: &'a Options,
     pub window: &'a Window,
@@ -21,23 +23,7 @@ pub struct Picture<'a> {
     pub svg: Svg,
 }
 
-impl<'a> Picture<'a> {
-    pub fn new(
-        survey: &'a Survey,
-        layout: &'a Layout,
-        options: &'a Options,
-        window: &'a Window,
-    ) -> Picture<'a> {
-        Picture {
-            survey,
-            layout,
-            options,
-            window,
-            detail: Detail::of(survey),
-            svg: Svg::default(),
-        }
-    }
-
+impl Picture<'_> {
     /// The whole SVG. The journal is run for the shapes.
     pub fn whole<E: Engine>(mut self, journal: Journal, progress: &mut Progress) -> String {
         match self.detail {
@@ -69,8 +55,11 @@ impl<'a> Picture<'a> {
             self.time_axis(self.layout.floor);
         }
         self.refusal_words();
-        self.svg
-            .text(16.0, self.layout.footer, Anchor::Start, "small", E::SAYS);
+        let mut y = self.layout.footer;
+        for line in &self.layout.says {
+            self.svg.text(16.0, y, Anchor::Start, "small", line);
+            y += 14.0;
+        }
         self.svg.out.push_str("</svg>\n");
         self.svg.out
     }

@@ -88,6 +88,21 @@ pub fn fit(text: &str, size: f64, room: f64) -> String {
     out
 }
 
+/// A text in lines that have room; a word that has none is cut.
+pub fn wrap(text: &str, size: f64, room: f64) -> Vec<String> {
+    let mut lines: Vec<String> = Vec::new();
+    for word in text.split(' ') {
+        match lines.last_mut() {
+            Some(line) if bold(&format!("{line} {word}"), size) <= room => {
+                line.push(' ');
+                line.push_str(word);
+            }
+            _ => lines.push(fit(word, size, room)),
+        }
+    }
+    lines
+}
+
 #[derive(Clone, Copy, PartialEq, Eq)]
 pub enum Anchor {
     Start,
@@ -181,6 +196,15 @@ mod tests {
             );
             assert!(bold(&cut, 12.0) > 80.0, "{cut}");
         }
+    }
+
+    #[test]
+    fn lines_have_room() {
+        let text = "as much of a line as there is room for";
+        let lines = wrap(text, 12.0, 120.0);
+        assert!(lines.len() > 2 && lines.iter().all(|line| bold(line, 12.0) <= 120.0));
+        assert_eq!(lines.join(" "), text);
+        assert_eq!(wrap(text, 12.0, 1000.0), [text]);
     }
 
     #[test]

@@ -85,7 +85,7 @@ fn the_table_shows_both_rules() {
 #[test]
 fn the_shipped_files_are_current() {
     let files = files();
-    assert_eq!(files.len(), 10);
+    assert_eq!(files.len(), 11);
     for (path, bytes) in files {
         let shipped = fs::read(&path).unwrap_or_default();
         assert!(shipped == bytes, "{} is out of date", path.display());

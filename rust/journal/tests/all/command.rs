@@ -175,6 +175,8 @@ fn the_wrong_command_line() {
         &["draw", "--from", "12 apples"],
         &["draw", "--to", "1.5"],
         &["draw", "--thread", "64"],
+        &["draw", "--width", "359"],
+        &["draw", "--width", "4001"],
         &["run", "--thread", "5"],
         &["encode", "--names", "x"],
         &["decode", "--first-block", "-1"],

@@ -9,8 +9,12 @@ use std::fs;
 use std::path::Path;
 use std::process::Command;
 
+use journal::engine::Proved;
+
 use crate::answer::answer;
+use crate::broken::RefillOnWake;
 use crate::command::{Folder, JOURNAL};
+use crate::controller::{play, Server, LENGTH};
 use crate::root;
 
 /// Commands that make a reader's shell ready.
@@ -147,4 +151,16 @@ fn the_page_about_the_cases_shows_what_its_commands_give() {
     let made = page("CASES.md");
     assert_eq!(made, pictures("CASES.md"));
     assert_eq!(made.len(), 3);
+    // Readout's shares below the three pictures.
+    let shares = [
+        play::<Proved>(Server::Steady, LENGTH),
+        play::<Proved>(Server::Jittery, LENGTH),
+        play::<RefillOnWake>(Server::Jittery, LENGTH),
+    ]
+    .map(|outcome| {
+        let share = outcome.shares[0];
+        format!("| readout, 500 thousandths reserved, gets **{share}** ")
+    });
+    let text = fs::read_to_string(root().join("docs/CASES.md")).unwrap();
+    assert!(text.contains(&shares.concat()));
 }

@@ -239,6 +239,32 @@ fn refusals_are_told_in_words() {
 }
 
 #[test]
+fn pictures_have_the_width_asked_for() {
+    let mut damaged = encode(LISTING);
+    damaged.extend_from_slice(&[7; 600]);
+    let long = play::<Proved>(Server::Jittery, 20_000_000).journal();
+    for journal in [damaged, long] {
+        for width in [360, 460, 800, 4000] {
+            let options = Options {
+                title: Some("A title that has no room in a narrow picture, as it goes on".into()),
+                width,
+                ..Options::default()
+            };
+            let svg = drawn(&journal, &options).svg;
+            check(&svg);
+            assert!(svg.starts_with(&format!(
+                "<svg xmlns=\"http://www.w3.org/2000/svg\" width=\"{width}\" "
+            )));
+            // Texts begin within it.
+            for place in svg.split("<text x=\"").skip(1) {
+                let x: f64 = place.split('"').next().unwrap().parse().unwrap();
+                assert!((0.0..f64::from(width)).contains(&x), "{place}");
+            }
+        }
+    }
+}
+
+#[test]
 fn random_journals() {
     let mut r = Rng::new(8);
     for _ in 0..1500 {

@@ -80,7 +80,7 @@ fn closed_standard_output_is_an_error() {
 fn the_first_lines_end_the_work() {
     let folder = Folder::new("head");
     let blocks = folder.file("long.blocks", long());
-    for command in ["decode", "run"] {
+    let early = |command: &str| {
         let began = Instant::now();
         let whole = run(&[command, &blocks], b"");
         let whole_time = began.elapsed();
@@ -90,12 +90,12 @@ fn the_first_lines_end_the_work() {
         let time = began.elapsed();
         assert_eq!((code(&output), errors(&output).as_str()), (0, ""));
         assert_eq!(output.stdout.split(|&b| b == b'\n').count(), 2);
-        // Running all records takes longer than reading the file.
-        assert!(
-            command == "decode" || time < whole_time,
-            "{time:?} {whole_time:?}"
-        );
-    }
+        time < whole_time / 2
+    };
+    early("decode");
+    // Running all records takes far longer than reading the file. Other work on
+    // the machine may hide it once or twice.
+    assert!((0..5).any(|_| early("run")));
 }
 
 #[test]
@@ -135,19 +135,26 @@ fn a_killed_run_leaves_the_old_file_and_the_next_takes_its_part_away() {
     folder.file(".out.txt.4194305.part", "half");
     let held = folder.file(&format!(".out.txt.{}.part", std::process::id()), "half");
     let other = folder.file(".other.txt.4194305.part", "half");
-    let mut child = Command::new(JOURNAL)
-        .args(["run", &blocks, "-o", &out])
-        .stdin(Stdio::null())
-        .spawn()
-        .unwrap();
-    let part = folder.path(&format!(".out.txt.{}.part", child.id()));
-    let deadline = Instant::now() + Duration::from_secs(20);
-    while !fs::metadata(&part).is_ok_and(|m| m.len() > 0) {
-        assert!(Instant::now() < deadline && child.try_wait().unwrap().is_none());
-        std::thread::sleep(Duration::from_millis(1));
-    }
-    child.kill().unwrap();
-    child.wait().unwrap();
+    // Killed while it writes; a run may be over before that is seen.
+    let killed = || {
+        fs::write(&out, "as it was").unwrap();
+        let mut child = Command::new(JOURNAL)
+            .args(["run", &blocks, "-o", &out])
+            .stdin(Stdio::null())
+            .spawn()
+            .unwrap();
+        let part = folder.path(&format!(".out.txt.{}.part", child.id()));
+        while child.try_wait().unwrap().is_none() {
+            if fs::metadata(&part).is_ok_and(|m| m.len() > 0) {
+                child.kill().unwrap();
+                let status = child.wait().unwrap();
+                return status.code().is_none().then_some(part);
+            }
+            std::thread::sleep(Duration::from_millis(1));
+        }
+        None
+    };
+    let part = (0..10).find_map(|_| killed()).unwrap();
     assert_eq!(fs::read(&out).unwrap(), b"as it was");
     assert!(fs::metadata(&part).is_ok());
     assert!(!folder

@@ -18,10 +18,13 @@ fn figures(journal: &[u8]) -> Figures {
     stats::<Proved>(whole, &View::default(), &mut Progress::silent()).unwrap()
 }
 
-/// The words of a line that begins with one.
-fn line<'a>(text: &'a str, start: &str) -> Vec<&'a str> {
-    let line = text.lines().find(|line| line.starts_with(start));
-    line.expect(start).split_whitespace().collect()
+/// The lines that begin with some words, with a blank between any two.
+fn lines(text: &str, start: &str) -> Vec<String> {
+    let found = text.lines().filter(|line| line.starts_with(start));
+    let words = found.map(|line| line.split_whitespace().collect::<Vec<_>>());
+    let lines: Vec<String> = words.map(|words| words.join(" ")).collect();
+    assert_eq!(lines.len(), 2, "{text}");
+    lines
 }
 
 #[test]
@@ -29,12 +32,21 @@ fn figures_of_the_listing() {
     let text = figures(&encode(LISTING)).text("listing", &Names::default());
     assert!(text.starts_with(&format!("listing\n{}\n", Proved::SAYS)));
     assert!(text.contains("15 records in 1 block, 60.000 ms of processor time, m 100, P 20000"));
-    // Group, reserved, share, runs, wakes, refused, longest run and wait with
-    // their records, largest lag and its time, bound, lives, state.
-    let five = "thread 5 0 500 833 3 1 1 32.000 3 10.000 8 5.000 42.000 60.000 1 runnable";
-    let seven = "thread 7 0 100 166 2 0 0 10.000 7 32.000 2 3.200 32.000 20.000 1 running";
-    assert_eq!(line(&text, "thread 5").join(" "), five);
-    assert_eq!(line(&text, "thread 7").join(" "), seven);
+    // Group, reserved, share, runs, wakes, refused, lives, state; longest run
+    // and wait with their records, largest lag and its time, bound, part of it.
+    let five = lines(&text, "thread 5");
+    assert_eq!(five[0], "thread 5 0 500 833 3 1 1 1 runnable");
+    assert_eq!(
+        five[1],
+        "thread 5 32.000 3 10.000 8 5.000 42.000 60.000 8 %"
+    );
+    let seven = lines(&text, "thread 7");
+    assert_eq!(seven[0], "thread 7 0 100 166 2 0 0 1 running");
+    assert_eq!(
+        seven[1],
+        "thread 7 10.000 7 32.000 2 3.200 32.000 20.000 16 %"
+    );
+    assert!(text.lines().all(|line| line.chars().count() <= 100));
     assert!(text.contains("2 records were refused:\n"));
     assert!(text.contains("  12  a thread is running: 1 time, first at record 11, 42 ms\n"));
     assert!(text.contains("  13  more used than the slice: 1 time, first at record 12, 42 ms\n"));
@@ -71,10 +83,8 @@ fn groups_ends_and_damage_are_told() {
     journal[512 + 3] = 9;
     let text = figures(&journal).text("x", &Names::default());
     assert!(text.contains("\ngroup 2 in 0: ceiling 300, closed\n"));
-    assert!(line(&text, "thread 1").ends_with(&["1", "left"]));
-    assert!(text
-        .lines()
-        .any(|line| line.starts_with("thread 2") && line.ends_with("lost in damage")));
+    assert!(lines(&text, "thread 1")[0].ends_with(" 1 left"));
+    assert!(lines(&text, "thread 2")[0].ends_with(" 1 lost in damage"));
     assert!(text.contains("No record was refused."));
     assert!(text.contains("At 0.7 ms block 1 was refused: 18, check wrong; 1 record not run."));
     let text = figures_of_nothing();
@@ -137,8 +147,8 @@ fn the_command_takes_names_and_parts() {
     let text = String::from_utf8(output.stdout).unwrap();
     assert!(text.starts_with(&format!("{blocks}\n")));
     assert!(text.contains("\npart from 32 ms to 60 ms, 7 records, 28.000 ms of processor time"));
-    assert_eq!(line(&text, "5 detector")[4], "642");
-    assert_eq!(line(&text, "7 valve")[4], "357");
+    assert!(lines(&text, "5 detector")[0].starts_with("5 detector 0 500 642 "));
+    assert!(lines(&text, "7 valve")[0].starts_with("7 valve 0 100 357 "));
     let output = run(
         &["stats", "--csv", "--refusals", "--thread", "5", &blocks],
         b"",

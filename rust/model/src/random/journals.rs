@@ -3,17 +3,8 @@
 use super::states::with_status;
 use super::{call, edge_value, Rng};
 use crate::blocks::{fields, kind, seal, write_block, Record, BLOCK, RECORD, RECORDS};
-use crate::calls::{apply, record, recorded, Call};
+use crate::calls::{apply, record, run, Call};
 use crate::rule::{Scheduler, BLOCKED, FREE, NONE};
-
-/// Runs a record, a start too, on a state.
-fn follow(s: &mut Scheduler, rec: &Record) {
-    if let Some(call) = recorded(rec) {
-        apply(s, call);
-    } else if let Ok(new) = Scheduler::start(rec.amount as u64, rec.ticks as u64) {
-        *s = new;
-    }
-}
 
 /// A well-formed record of any kind with any values in the used fields.
 pub fn any_record(r: &mut Rng) -> Record {
@@ -126,7 +117,7 @@ pub fn journal(r: &mut Rng) -> Vec<u8> {
                     _ => record(call(r, &s)),
                 },
             };
-            follow(&mut s, &rec);
+            run(&mut s, &rec);
             records.push(rec);
         }
         let mut block = [0; BLOCK];

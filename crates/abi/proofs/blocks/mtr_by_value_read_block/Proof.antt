@@ -1,3 +1,4 @@
+-- `mtr_by_value_read_block` meets its contract: it hands out what the reader finds, with its number.
 use mathlib.Core.Path.{_≡_, sym, ap, subst, _∙_}
 use Prim.Native.Nat.{ℕ, _≤_}
 use native.Mathlib.Omega.{arith}
@@ -25,8 +26,9 @@ number-requires c κs = search needs
 
 cast-t7 : tie.Need-cast-t7
 cast-t7 c =
-    let a = c .before .before .before .before .before .args in
-    let r = c .before .before .before .read in
+    let found = c .before .before .before in
+    let a = found .before .before .args in
+    let r = found .read in
     let h : r .result .count ≤ 31 = subst (λ (x : Reading). x .count ≤ 31) (sym (r .ensures)) (read-few (a .block) (a .area .now)) in
     omega arith
 

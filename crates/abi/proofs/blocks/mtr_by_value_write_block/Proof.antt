@@ -1,3 +1,4 @@
+-- `mtr_by_value_write_block` meets its contract: it hands out the number of what the writer answers, and its area.
 use mathlib.Core.Path.{ap, _∙_}
 use Rattle.block.specs.Block.{refusalOf}
 use borrow.Author.Needs.{needs}
@@ -18,7 +19,9 @@ same-length : tie.Need-same-length
 same-length c = search needs
 
 returns : tie.Need-returns
-returns c = (c .number .ensures ∙ ap refusalOf (c .before .before .before .write .ensures .0), c .before .before .before .write .ensures .1)
+returns c =
+    let w = c .before .before .before .write in
+    (c .number .ensures ∙ ap refusalOf (w .ensures .0), w .ensures .1)
 
 pub mtr-by-value-write-block-spec : {M : Type 1} → statement M
 mtr-by-value-write-block-spec = tie.close (tie.spec write-requires number-requires same-length returns)

@@ -17,7 +17,8 @@ returns : tie.Need-returns
 returns c =
     let a = c .before .before .args in
     let done = c .before .admit in
-    c .handed .ensures ∙ ap replyOut (call-numbers (admit (a .number) (a .group) (a .reservation)) (a .state) (done .result) (done .ensures))
+    let call = admit (a .number) (a .group) (a .reservation) in
+    c .handed .ensures ∙ ap replyOut (call-numbers call (a .state) (done .result) (done .ensures))
 
 pub mtr-by-value-admit-spec : {M : Type 1} → statement M
 mtr-by-value-admit-spec = tie.close (tie.spec admit-requires handed-requires returns)

@@ -17,7 +17,8 @@ returns : tie.Need-returns
 returns c =
     let a = c .before .before .args in
     let done = c .before .open in
-    c .handed .ensures ∙ ap replyOut (call-numbers (openGroup (a .number) (a .parent) (a .ceiling)) (a .state) (done .result) (done .ensures))
+    let call = openGroup (a .number) (a .parent) (a .ceiling) in
+    c .handed .ensures ∙ ap replyOut (call-numbers call (a .state) (done .result) (done .ensures))
 
 pub mtr-by-value-open-spec : {M : Type 1} → statement M
 mtr-by-value-open-spec = tie.close (tie.spec open-requires handed-requires returns)

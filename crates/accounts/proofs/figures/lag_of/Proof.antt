@@ -16,7 +16,9 @@ sub-due : tie.Need-sub-due
 sub-due c = search needs
 
 mul-due : tie.Need-mul-due
-mul-due c = record { fits = omega (arith, due-small (c .before .before .before .before .args .meter) (c .before .before .before .before .args .t) (c .before .before .before .before .pre)) }
+mul-due c =
+    let s = c .before .before .before .before in
+    record { fits = omega (arith, due-small (s .args .meter) (s .args .t) (s .pre)) }
 
 mul-had : tie.Need-mul-had
 mul-had c = search needs

@@ -21,7 +21,9 @@ div-result : tie.Need-div-result
 div-result c = search needs
 
 cast-result : tie.Need-cast-result
-cast-result c = record { fits = omega (arith, quotient-most (c .before .before .before .args .meter) (c .before .before .before .args .t) (c .before .before .before .pre)) }
+cast-result c =
+    let s = c .before .before .before in
+    record { fits = omega (arith, quotient-most (s .args .meter) (s .args .t) (s .pre)) }
 
 returns-2 : tie.Need-returns-2
 unfolding shareOf

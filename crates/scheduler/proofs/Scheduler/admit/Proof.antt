@@ -11,22 +11,26 @@ use Rattle.scheduler.proofs.Scheduler.admit.Statement.{statement}
 use Rattle.scheduler.proofs.Scheduler.admit.Tie as tie
 
 module _ (c : tie.After-admit-code) where
+  abbrev first : tie.After-tested
+  first = c .before .before .before .before .before
+
   abbrev S : Scheduler
-  S = c .before .before .before .before .before .before .args .t1
+  S = first .before .args .t1
 
   abbrev N : ℕ
-  N = c .before .before .before .before .before .before .args .number
+  N = first .before .args .number
 
   abbrev G : ℕ
-  G = c .before .before .before .before .before .before .args .group
+  G = first .before .args .group
 
   abbrev F : ℕ
-  F = c .before .before .before .before .before .before .args .reservation
+  F = first .before .args .reservation
 
   number : c .admit-code .result ≡ refusal (admit N G F) S
   number =
-      let test = c .before .before .before .before .before .tested .ensures in
-      c .admit-code .ensures S (test .test) refl (λ w. c .before .before .load-of .ensures S refl (test .sums w)) (λ h. ap (λ (n : ℕ). (threadAt S n) .status) (rest N h))
+      let test = first .tested .ensures in
+      c .admit-code .ensures S (test .test) refl (λ w. c .before .before .load-of .ensures S refl (test .sums w))
+      (λ h. ap (λ (n : ℕ). (threadAt S n) .status) (rest N h))
 
 tested-requires : tie.Need-tested-requires
 tested-requires c κs = search needs

@@ -1,4 +1,5 @@
 -- `Scheduler::close` meets its contract: the code decides, and what is stored is the closed group or the old one.
+use Prim.Native.Nat.{ℕ}
 use mathlib.Core.Path.{_≡_, refl}
 use borrow.Author.Needs.{needs}
 use Rattle.scheduler.specs.declared.Scheduler.{Scheduler}
@@ -9,12 +10,18 @@ use Rattle.scheduler.proofs.Scheduler.close.Statement.{statement}
 use Rattle.scheduler.proofs.Scheduler.close.Tie as tie
 
 module _ (c : tie.After-close-code) where
-  abbrev S : Scheduler
-  S = c .before .before .before .before .before .args .t1
+  abbrev first : tie.After-tested
+  first = c .before .before .before .before
 
-  number : c .close-code .result ≡ refusal (closeGroup (c .before .before .before .before .before .args .number)) S
+  abbrev S : Scheduler
+  S = first .before .args .t1
+
+  abbrev N : ℕ
+  N = first .before .args .number
+
+  number : c .close-code .result ≡ refusal (closeGroup N) S
   number =
-      let test = c .before .before .before .before .tested .ensures in
+      let test = first .tested .ensures in
       c .close-code .ensures S (test .test) refl (λ w. c .before .load-of .ensures S refl (test .sums w))
 
 tested-requires : tie.Need-tested-requires
@@ -48,8 +55,8 @@ returns : tie.Need-returns
 unfolding withGroup
 returns c =
     let k = c .before .before .before in
-    let a = k .before .before .before .before .before .args in
-    close-done (S k) (a .number) (k .close-code .result) (number k) (c .answered .result) (c .answered .ensures) (c .before .closed-if .result) (c .before .closed-if .ensures)
+    close-done (S k) (N k) (k .close-code .result) (number k) (c .answered .result) (c .answered .ensures)
+    (c .before .closed-if .result) (c .before .closed-if .ensures)
 
 pub close-spec : {M : Type 1} → statement M
 close-spec =

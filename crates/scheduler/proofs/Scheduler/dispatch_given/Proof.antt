@@ -1,10 +1,10 @@
 -- `dispatch_given` meets its contract: each way out is one case of the rule. The loop's invariant: what is passed of the whole list is the
 -- entries passed so far and what is passed of the rest, which is nothing where the search has ended early.
-use Prim.Native.Nat.{ℕ, _+_, _-_, _≤_, _<_}
+use Prim.Native.Nat.{ℕ, _+_, _-_, min, _≤_, _<_}
 use mathlib.Core.Path.{_≡_, _∙_}
 use mathlib.Core.Bool.{cond}
 use native.Mathlib.Omega.{arith}
-use lib.ListN.{getD, take, drop}
+use lib.ListN.{length, getD, take, drop}
 use lib.Dec.{eqb, ltb}
 use borrow.Author.Needs.{needs}
 use borrow.Author.Tests.{eq-eqb, ne-eqb, ltb-true, ltb-false}
@@ -24,7 +24,10 @@ beyond s count i = passed (runnableAt s) (drop i (take count (s .order)))
 
 abbrev Inv-loop : tie.InvT-loop
 Inv-loop ok self running code count stop₀ before₀ stop before =
-    (before ≤ stop) × (stop ≤ count) × (passed (runnableAt self) (take count (self .order)) ≡ before + beyond self count before) × (stop < count → beyond self count before ≡ 0)
+    (before ≤ stop)
+    × (stop ≤ count)
+    × (passed (runnableAt self) (take count (self .order)) ≡ before + beyond self count before)
+    × (stop < count → beyond self count before ≡ 0)
 
 abbrev μ-loop : tie.MeasureT-loop
 μ-loop ok self running code count stop₀ before₀ stop before = stop - before
@@ -63,6 +66,12 @@ module _ (c : tie.In-loop Inv-loop μ-loop) where
   small : getD (S top .order) i 0 < 64
   small = look-small (S top) (code top) (number top) (count top) (part top) i here
 
+  most : count top ≤ 64
+  most = look-most (S top) (code top) (number top) (count top) (part top)
+
+  inside : i < min (count top) (length (S top .order))
+  inside = omega (arith, here, look .known .order64, most)
+
 dispatch-code-requires : tie.Need-dispatch-code-requires Inv-loop μ-loop
 dispatch-code-requires c κs = search needs
 
@@ -76,7 +85,7 @@ cast-number : tie.Need-cast-number Inv-loop μ-loop
 cast-number c = search needs
 
 element-copy-out-number : tie.Need-element-copy-out-number Inv-loop μ-loop
-element-copy-out-number c = omega (arith, here c, look-most (S (top c)) (code (top c)) (number (top c)) (count (top c)) (part (top c)))
+element-copy-out-number c = omega (arith, here c, most c)
 
 cast-thread : tie.Need-cast-thread Inv-loop μ-loop
 cast-thread c = omega (arith, small (c .before))
@@ -97,17 +106,17 @@ loop-again c =
     let l = t .before in
     let s = S (top t) in
     let n = getD (s .order) (i t) 0 in
-    let k = look t in (
+    let runs = eq-eqb ((threadAt s n) .status) 1 (omega arith) in (
       omega arith,
       omega (arith, here t),
       l .loop .inv .2,
-      λ _. stop (runnableAt s) (s .order) (count (top t)) (i t) (omega (arith, here t, k .known .order64, look-most s (code (top t)) (number (top t)) (count (top t)) (part (top t)))) (eq-eqb ((threadAt s n) .status) 1 (omega arith)),
+      λ _. stop (runnableAt s) (s .order) (count (top t)) (i t) (inside t) runs,
     )
 
 add-before : tie.Need-add-before Inv-loop μ-loop
 add-before c =
     let t = c .before .before .before in
-    omega (arith, here t, look-most (S (top t)) (code (top t)) (number (top t)) (count (top t)) (part (top t)))
+    omega (arith, here t, most t)
 
 loop-less-2 : tie.Need-loop-less-2 Inv-loop μ-loop
 loop-less-2 c = omega (arith, c .before .before .before .loop-test .taken)
@@ -119,8 +128,8 @@ loop-again-2 c =
     let l = t .before in
     let s = S (top t) in
     let n = getD (s .order) (i t) 0 in
-    let k = look t in
-    let next = go (runnableAt s) (s .order) (count (top t)) (i t) (omega (arith, here t, k .known .order64, look-most s (code (top t)) (number (top t)) (count (top t)) (part (top t)))) (ne-eqb ((threadAt s n) .status) 1 (λ e. omega (arith, c .if1 .left))) in (
+    let waits = ne-eqb ((threadAt s n) .status) 1 (λ e. omega (arith, c .if1 .left)) in
+    let next = go (runnableAt s) (s .order) (count (top t)) (i t) (inside t) waits in (
       omega (arith, t .loop-test .taken),
       l .loop .inv .1,
       omega (arith, l .loop .inv .2, next),
@@ -169,7 +178,8 @@ returns c =
     cases (ltb n (count t))
     (λ y. omega (arith, v .2, v .3 (omega (arith, x .loop-test .left, ltb-true n (count t) y))))
     (λ y. omega (arith, v .2, end (runnableAt s) (s .order) (count t) n (omega (arith, ltb-false n (count t) y)))) in
-    dispatch-done s (code t) (number t) (count t) (part t) n (omega (arith, v .0, v .1)) found (z .slice .result) (z .slice .ensures) (r .running-after .result) (r .running-after .ensures)
+    dispatch-done s (code t) (number t) (count t) (part t) n (omega (arith, v .0, v .1)) found
+    (z .slice .result) (z .slice .ensures) (r .running-after .result) (r .running-after .ensures)
     (c .dispatched .result) (c .dispatched .ensures)
 
 pub dispatch-given-spec : {M : Type 1} → statement M

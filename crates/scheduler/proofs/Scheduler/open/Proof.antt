@@ -1,25 +1,33 @@
 -- `Scheduler::open` meets its contract: the code decides, and what is stored is the new group or the old one.
+use Prim.Native.Nat.{ℕ}
 use mathlib.Core.Path.{_≡_, refl}
 use borrow.Author.Needs.{needs}
 use Rattle.scheduler.specs.declared.Scheduler.{Scheduler}
 use Rattle.scheduler.specs.State.{withGroup}
-use Rattle.scheduler.specs.Refusals.{Call, openGroup, refusal}
+use Rattle.scheduler.specs.Refusals.{openGroup, refusal}
 use Rattle.scheduler.proofs.groups.Codes.{open-fits, open-done}
 use Rattle.scheduler.proofs.Scheduler.open.Statement.{statement}
 use Rattle.scheduler.proofs.Scheduler.open.Tie as tie
 
 module _ (c : tie.After-open-code) where
+  abbrev first : tie.After-tested
+  first = c .before .before .before .before
+
   abbrev S : Scheduler
-  S = c .before .before .before .before .before .args .t1
+  S = first .before .args .t1
 
-  abbrev call : Call
-  call =
-      let a = c .before .before .before .before .before .args in
-      openGroup (a .number) (a .parent) (a .ceiling)
+  abbrev N : ℕ
+  N = first .before .args .number
 
-  number : c .open-code .result ≡ refusal call S
+  abbrev P : ℕ
+  P = first .before .args .parent
+
+  abbrev C : ℕ
+  C = first .before .args .ceiling
+
+  number : c .open-code .result ≡ refusal (openGroup N P C) S
   number =
-      let test = c .before .before .before .before .tested .ensures in
+      let test = first .tested .ensures in
       c .open-code .ensures S (test .test) refl (λ w. c .before .load-of .ensures S refl (test .sums w))
 
 tested-requires : tie.Need-tested-requires
@@ -40,8 +48,7 @@ array-copy-out-old c = search needs
 opened-if-requires : tie.Need-opened-if-requires
 opened-if-requires c κs =
     let k = c .before in
-    let a = k .before .before .before .before .before .args in
-    open-fits (S k) (a .number) (a .parent) (a .ceiling) (k .open-code .result) (number k)
+    open-fits (S k) (N k) (P k) (C k) (k .open-code .result) (number k)
 
 mul-group : tie.Need-mul-group
 mul-group c = search needs
@@ -56,8 +63,8 @@ returns : tie.Need-returns
 unfolding withGroup
 returns c =
     let k = c .before .before .before in
-    let a = k .before .before .before .before .before .args in
-    open-done (S k) (a .number) (a .parent) (a .ceiling) (k .open-code .result) (number k) (c .answered .result) (c .answered .ensures) (c .before .opened-if .result) (c .before .opened-if .ensures)
+    open-done (S k) (N k) (P k) (C k) (k .open-code .result) (number k) (c .answered .result) (c .answered .ensures)
+    (c .before .opened-if .result) (c .before .opened-if .ensures)
 
 pub open-spec : {M : Type 1} → statement M
 open-spec =

@@ -10,10 +10,21 @@ use Rattle.scheduler.proofs.Scheduler.remove_given.Statement.{statement
 use Rattle.scheduler.proofs.Scheduler.remove_given.Tie as tie
 
 -- the number
-number : (c : tie.After-remove-code) → c .remove-code .result ≡ refusal (remove (c .before .before .args .number)) (c .before .before .args .t1)
-number c =
-    let b = c .before .before in
-    c .remove-code .ensures ∙ remove-number (b .args .t1) (b .args .number) (b .args .ok) (b .pre)
+module _ (c : tie.After-remove-code) where
+  abbrev start : tie.Start
+  start = c .before .before
+
+  abbrev S : Scheduler
+  S = start .args .t1
+
+  abbrev N : ℕ
+  N = start .args .number
+
+  abbrev code : ℕ
+  code = c .remove-code .result
+
+  number : code ≡ refusal (remove N) S
+  number = remove-number S N (start .args .ok) (start .pre) code (c .remove-code .ensures)
 
 cast-at : tie.Need-cast-at
 cast-at c = search needs
@@ -51,8 +62,7 @@ element-set-from-freed c = search needs
 count-after-requires : tie.Need-count-after-requires
 count-after-requires c κs = λ z.
     let k = c .before .before .before in
-    let a = k .before .before .args in
-    (remove-listed (a .t1) (a .number) (sym (number k) ∙ eqb-true (k .remove-code .result) 0 z)) .some
+    (remove-listed (S k) (N k) (sym (number k) ∙ eqb-true (code k) 0 z)) .some
 
 answered-requires : tie.Need-answered-requires
 answered-requires c κs = search needs
@@ -63,8 +73,7 @@ returns c =
     let q = n .before in
     let f = q .before in
     let k = f .before .before in
-    let a = k .before .before .args in
-    remove-done (a .t1) (a .number) (k .remove-code .result) (number k) (c .answered .result) (c .answered .ensures) (f .freed .result) (f .freed .ensures)
+    remove-done (S k) (N k) (code k) (number k) (c .answered .result) (c .answered .ensures) (f .freed .result) (f .freed .ensures)
     (q .requeued .result) (q .requeued .ensures) (n .count-after .result) (n .count-after .ensures)
 
 pub remove-given-spec : {M : Type 1} → statement M

@@ -14,17 +14,22 @@ use Rattle.scheduler.proofs.Scheduler.report_given.Tie as tie
 
 -- the number
 module _ (c : tie.After-report-code) where
+  abbrev start : tie.Start
+  start = c .before .before .before
+
   abbrev S : Scheduler
-  S = c .before .before .before .args .t1
+  S = start .args .t1
 
   abbrev reason : ℕ
-  reason = c .before .before .before .args .reason
+  reason = start .args .reason
 
   abbrev used : ℕ
-  used = c .before .before .before .args .used
+  used = start .args .used
 
   number : c .report-code .result ≡ refusal (report reason used) S
-  number = c .report-code .ensures ∙ report-number S reason used (c .before .before .before .args .ok) (c .before .before .before .pre) (c .before .slice .result) (c .before .slice .ensures)
+  number =
+      c .report-code .ensures
+      ∙ report-number S reason used (start .args .ok) (start .pre) (c .before .slice .result) (c .before .slice .ensures)
 
   -- what soundness gives where there is no refusal
   bounds : eqb (c .report-code .result) 0 ≡ true → Ready S reason used
@@ -39,9 +44,11 @@ returns c =
     let t = v .before in
     let m = t .before in
     let k = m .before .before in
-    report-done (S k) (reason k) (used k) (k .report-code .result) (number k) (c .answered .result) (c .answered .ensures) (t .reported .result)
-    (t .reported .ensures (S k) (λ z. sym (m .meter-after .ensures ∙ rw z)) refl) (v .moves .result) (v .moves .ensures) (q .requeued .result) (q .requeued .ensures)
-    (m .meter-after .result) (m .meter-after .ensures) (n .count-after .result) (n .count-after .ensures) (x .running-after .result) (x .running-after .ensures)
+    report-done (S k) (reason k) (used k) (k .report-code .result) (number k) (c .answered .result) (c .answered .ensures)
+    (t .reported .result) (t .reported .ensures (S k) (λ z. sym (m .meter-after .ensures ∙ rw z)) refl)
+    (v .moves .result) (v .moves .ensures) (q .requeued .result) (q .requeued .ensures)
+    (m .meter-after .result) (m .meter-after .ensures) (n .count-after .result) (n .count-after .ensures)
+    (x .running-after .result) (x .running-after .ensures)
 
 cast-at : tie.Need-cast-at
 cast-at c = search needs

@@ -1,4 +1,5 @@
 -- `start` meets its contract: the number is the refusal's, and where it is 0 the zeros get the settings, group 0 and no running thread.
+use Prim.Native.Nat.{ℕ}
 use mathlib.Core.Path.{_≡_, sym, _∙_}
 use native.Mathlib.Omega.{arith}
 use borrow.Author.Needs.{needs}
@@ -8,8 +9,18 @@ use Rattle.scheduler.proofs.Scheduler.start.Statement.{statement}
 use Rattle.scheduler.proofs.Scheduler.start.Tie as tie
 
 -- no refusal
-clear : (c : tie.Then1) → startRefusal (c .before .before .before .args .thousandth) (c .before .before .before .args .interval) ≡ 0
-clear c = sym (c .before .before .start-code .ensures) ∙ c .if1 .taken
+module _ (c : tie.Then1) where
+  abbrev coded : tie.After-start-code
+  coded = c .before .before
+
+  abbrev M : ℕ
+  M = coded .before .args .thousandth
+
+  abbrev P : ℕ
+  P = coded .before .args .interval
+
+  clear : startRefusal M P ≡ 0
+  clear = sym (coded .start-code .ensures) ∙ c .if1 .taken
 
 start-code-requires : tie.Need-start-code-requires
 start-code-requires c κs = search needs
@@ -21,21 +32,24 @@ cast-t10 : tie.Need-cast-t10
 cast-t10 c = search needs
 
 cast-t11 : tie.Need-cast-t11
-cast-t11 c = let a = c .before .before .before .args in omega (arith, start-bounds (a .thousandth) (a .interval) (clear c))
+cast-t11 c = omega (arith, start-bounds (M c) (P c) (clear c))
 
 cast-t12 : tie.Need-cast-t12
-cast-t12 c = let a = c .before .before .before .args in omega (arith, start-bounds (a .thousandth) (a .interval) (clear c))
+cast-t12 c = omega (arith, start-bounds (M c) (P c) (clear c))
 
 element-set-from-root : tie.Need-element-set-from-root
 element-set-from-root c = search needs
 
 returns : tie.Need-returns
-returns c = let a = c .before .before .before .args in start-done (a .thousandth) (a .interval) (c .before .unstarted .result) (c .before .unstarted .ensures) (clear c)
+returns c = start-done (M c) (P c) (c .before .unstarted .result) (c .before .unstarted .ensures) (clear c)
 
 returns-2 : tie.Need-returns-2
 returns-2 c =
-    let a = c .before .before .before .args in
-    start-refused (a .thousandth) (a .interval) (c .before .unstarted .result) (c .before .unstarted .ensures) (c .before .before .start-code .result) (c .before .before .start-code .ensures) (c .if1 .left)
+    let zeros = c .before in
+    let coded = zeros .before in
+    let a = coded .before .args in
+    start-refused (a .thousandth) (a .interval) (zeros .unstarted .result) (zeros .unstarted .ensures)
+    (coded .start-code .result) (coded .start-code .ensures) (c .if1 .left)
 
 pub start-spec : {M : Type 1} → statement M
 start-spec =

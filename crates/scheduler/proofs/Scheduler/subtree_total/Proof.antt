@@ -14,17 +14,20 @@ use Rattle.scheduler.proofs.Scheduler.subtree_total.Tie as tie
 
 -- past the soundness test
 module _ (c : tie.Else1) where
+  abbrev first : tie.After-tested
+  first = c .before .before
+
   abbrev S : Scheduler
-  S = c .before .before .before .args .self
+  S = first .before .args .self
 
   abbrev G : ℕ
-  G = c .before .before .before .args .group
+  G = first .before .args .group
 
-  passed : c .before .before .tested .result .ok ≡ true
-  passed = not-false (c .before .before .tested .result .ok) (c .if1 .left)
+  passed : first .tested .result .ok ≡ true
+  passed = not-false (first .tested .result .ok) (c .if1 .left)
 
   ok : sound S ≡ true
-  ok = sym (c .before .before .tested .ensures .test) ∙ passed
+  ok = sym (first .tested .ensures .test) ∙ passed
 
 -- past that of the group
 module _ (c : tie.Else2) where
@@ -39,8 +42,9 @@ tested-requires c κs = search needs
 
 returns : tie.Need-returns
 returns c =
-    let a = c .before .before .before in
-    total-unsound (a .args .self) (a .args .group) (sym (c .before .before .tested .ensures .test) ∙ not-true (c .before .before .tested .result .ok) (c .if1 .taken))
+    let t = c .before .before in
+    let a = t .before .args in
+    total-unsound (a .self) (a .group) (sym (t .tested .ensures .test) ∙ not-true (t .tested .result .ok) (c .if1 .taken))
 
 is-open-requires : tie.Need-is-open-requires
 is-open-requires c κs = search needs
@@ -48,7 +52,8 @@ is-open-requires c κs = search needs
 returns-2 : tie.Need-returns-2
 returns-2 c =
     let e = c .before .before .before in
-    total-closed (S e) (G e) (ok e) (sym (c .before .is-open .ensures (S e) refl) ∙ not-true (c .before .is-open .result) (c .if2 .taken))
+    let shut = sym (c .before .is-open .ensures (S e) refl) ∙ not-true (c .before .is-open .result) (c .if2 .taken) in
+    total-closed (S e) (G e) (ok e) shut
 
 subtree-requires : tie.Need-subtree-requires
 subtree-requires c κs =
@@ -57,14 +62,16 @@ subtree-requires c κs =
       state = S e;
       fine = holds (sound (S e)) (ok e);
       same = refl;
-      sums = e .before .before .tested .ensures .sums (passed e);
+      sums = (first e) .tested .ensures .sums (passed e);
       opened = holds (openAt (S e) (G e)) (opened (c .before));
     }
 
 returns-3 : tie.Need-returns-3
 returns-3 c =
-    let e = E (c .before .before) in
-    total-sum (S e) (G e) (ok e) (opened (c .before .before)) (c .subtree .result) (c .subtree .ensures (S e) refl (e .before .before .tested .ensures .sums (passed e)))
+    let o = c .before .before in
+    let e = E o in
+    let sums = (first e) .tested .ensures .sums (passed e) in
+    total-sum (S e) (G e) (ok e) (opened o) (c .subtree .result) (c .subtree .ensures (S e) refl sums)
 
 pub subtree-total-spec : {M : Type 1} → statement M
 subtree-total-spec =

@@ -40,8 +40,9 @@ returns c =
     let k = w .before in
     let b = k .before .before in
     let a = b .args in
-    wake-done (a .t1) (a .number) (k .wake-code .result) (k .wake-code .ensures ∙ wake-number (a .t1) (a .number) (a .ok) (b .pre)) (c .answered .result) (c .answered .ensures)
-    (w .woken .result) (w .woken .ensures (a .t1) refl)
+    let code = k .wake-code .result in
+    wake-done (a .t1) (a .number) code (wake-number (a .t1) (a .number) (a .ok) (b .pre) code (k .wake-code .ensures))
+    (c .answered .result) (c .answered .ensures) (w .woken .result) (w .woken .ensures (a .t1) refl)
 
 pub wake-given-spec : {M : Type 1} → statement M
 wake-given-spec =

@@ -2,6 +2,7 @@
 use borrow.Author.Tests.{le-leb, lt-leb, ne-eqb, not-true, not-false}
 use native.Mathlib.Omega.{arith}
 use Rattle.base.specs.Checks.{firstOf}
+use Rattle.scheduler.specs.State.{meterLimit}
 use Rattle.scheduler.proofs.threads.dispatch_code.Statement.{statement}
 use Rattle.scheduler.proofs.threads.dispatch_code.Tie as tie
 
@@ -19,13 +20,13 @@ returns-3 : tie.Need-returns-3
 unfolding firstOf
 returns-3 c =
     let a = c .before .before .before .args in
-    simp (not-false (a .ok) (c .before .before .if1 .left), c .before .if2 .left, le-leb 10000000000000 (a .meter) (c .if3 .taken))
+    simp (not-false (a .ok) (c .before .before .if1 .left), c .before .if2 .left, le-leb meterLimit (a .meter) (c .if3 .taken))
 
 returns-4 : tie.Need-returns-4
 unfolding firstOf
 returns-4 c =
     let a = c .before .before .before .args in
-    simp (not-false (a .ok) (c .before .before .if1 .left), c .before .if2 .left, lt-leb 10000000000000 (a .meter) (c .if3 .left))
+    simp (not-false (a .ok) (c .before .before .if1 .left), c .before .if2 .left, lt-leb meterLimit (a .meter) (c .if3 .left))
 
 pub dispatch-code-spec : {M : Type 1} → statement M
 dispatch-code-spec = tie.close (tie.spec returns returns-2 returns-3 returns-4)

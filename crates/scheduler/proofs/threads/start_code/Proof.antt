@@ -1,11 +1,32 @@
--- `start_code` meets its contract.
+-- `start_code` meets its contract: each return is one way for the only check to apply, and the last is none.
+use Prim.Native.Nat.{ℕ}
+use mathlib.Core.Path.{_≡_}
+use mathlib.Core.Bool.{true}
+use lib.Dec.{leb}
 use borrow.Author.Needs.{needs}
 use borrow.Author.Tests.{le-leb, lt-leb}
-use native.Mathlib.Omega.{arith}
 use Rattle.base.specs.Checks.{within, firstOf}
+use Rattle.scheduler.specs.State.{sliceMost}
 use Rattle.scheduler.specs.Refusals.{startRefusal}
 use Rattle.scheduler.proofs.threads.start_code.Statement.{statement}
 use Rattle.scheduler.proofs.threads.start_code.Tie as tie
+
+-- past the range of m
+module _ (c : tie.Else2) where
+  abbrev M : ℕ
+  M = c .before .before .args .thousandth
+
+  abbrev P : ℕ
+  P = c .before .before .args .interval
+
+  low : leb 1 M ≡ true
+  low = le-leb 1 M (c .before .if1 .left)
+
+  high : leb M 1000 ≡ true
+  high = le-leb M 1000 (c .if2 .left)
+
+cast-if1 : tie.Need-cast-if1
+cast-if1 c = search needs
 
 returns : tie.Need-returns
 unfolding startRefusal firstOf within
@@ -20,11 +41,14 @@ returns-2 c =
     let a = c .before .before .args in
     simp (le-leb 1 (a .thousandth) (c .before .if1 .left), lt-leb (a .thousandth) 1000 (c .if2 .taken))
 
+cast-if3 : tie.Need-cast-if3
+cast-if3 c = search needs
+
 returns-3 : tie.Need-returns-3
 unfolding startRefusal firstOf within
 returns-3 c =
-    let a = c .before .before .before .args in
-    simp (le-leb 1 (a .thousandth) (c .before .before .if1 .left), le-leb (a .thousandth) 1000 (c .before .if2 .left), lt-leb 1 (a .interval) (omega arith))
+    let e = c .before in
+    simp (low e, high e, lt-leb 1 (P e) (c .if3 .taken))
 
 cast-if4 : tie.Need-cast-if4
 cast-if4 c = search needs
@@ -32,25 +56,16 @@ cast-if4 c = search needs
 returns-4 : tie.Need-returns-4
 unfolding startRefusal firstOf within
 returns-4 c =
-    let a = c .before .before .before .before .args in
-    simp (
-      le-leb 1 (a .thousandth) (c .before .before .before .if1 .left),
-      le-leb (a .thousandth) 1000 (c .before .before .if2 .left),
-      le-leb 1 (a .interval) (c .before .if3 .left),
-      lt-leb (a .interval) 1000000 (c .if4 .taken),
-    )
+    let e = c .before .before in
+    simp (low e, high e, le-leb 1 (P e) (c .before .if3 .left), lt-leb (P e) sliceMost (c .if4 .taken))
 
 returns-5 : tie.Need-returns-5
 unfolding startRefusal firstOf within
 returns-5 c =
-    let a = c .before .before .before .before .args in
-    simp (
-      le-leb 1 (a .thousandth) (c .before .before .before .if1 .left),
-      le-leb (a .thousandth) 1000 (c .before .before .if2 .left),
-      le-leb 1 (a .interval) (c .before .if3 .left),
-      le-leb (a .interval) 1000000 (c .if4 .left),
-    )
+    let e = c .before .before in
+    simp (low e, high e, le-leb 1 (P e) (c .before .if3 .left), le-leb (P e) sliceMost (c .if4 .left))
 
 pub start-code-spec : {M : Type 1} → statement M
 start-code-spec =
-    tie.close (tie.spec returns cast-if2 returns-2 returns-3 cast-if4 returns-4 returns-5)
+    tie.close
+    (tie.spec cast-if1 returns cast-if2 returns-2 cast-if3 returns-3 cast-if4 returns-4 returns-5)
