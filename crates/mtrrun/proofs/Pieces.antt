@@ -28,7 +28,8 @@ pub held-none : (q : Replay) → q ≡ beginning → Held 0 q
 unfolding blocksIn leftBy
 held-none q e = record { bytes = []; size = refl; left = e }
 
-pub held-more : (n : ℕ) (q : Replay) (bytes : List ℕ) (r : Piece) → Held n q → n % 512 ≡ 0 → Replayed bytes q r → Held (n + r .read) (r .replay)
+pub held-more : (n : ℕ) (q : Replay) (bytes : List ℕ) (r : Piece) → Held n q → n % 512 ≡ 0 → Replayed bytes q r
+    → Held (n + r .read) (r .replay)
 unfolding blocksIn
 held-more n q bytes r h z w =
     let a = h .bytes in

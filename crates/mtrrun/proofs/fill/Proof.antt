@@ -1,4 +1,4 @@
--- `fill` is safe, ends and reads no more bytes than the area has. The loop's invariant: the area keeps its length, and `at` stays within it.
+-- `fill` is safe, ends and reads no more bytes than the area has. The loop's invariant: the area keeps its length, with `at` within it.
 use mathlib.Core.Path.{_≡_, refl, sym, _∙_}
 use Prim.Native.Nat.{ℕ, _+_, _-_, _≤_, _<_}
 use native.Mathlib.Omega.{arith}
@@ -43,7 +43,8 @@ module _ (c : tie.After-count Inv-loop μ-loop) where
 
   most : at read-at + c .count .result ≤ length (old read-at)
   most =
-      let p : c .count .result ≤ length (take (length (area read-at) - at read-at) (drop (at read-at) (area read-at))) = c .count .ensures .0 .0 in
+      let p : c .count .result ≤ length (take (length (area read-at) - at read-at) (drop (at read-at) (area read-at))) =
+      c .count .ensures .0 .0 in
       omega (arith, p, part-most (area read-at) (at read-at) (length (area read-at) - at read-at), kept read-at, inside read-at)
 
 loop-holds : tie.Need-loop-holds Inv-loop μ-loop
@@ -80,7 +81,9 @@ returns : tie.Need-returns Inv-loop μ-loop
 returns c = let e = read-at (c .before) in omega (arith, kept e, inside e)
 
 add-at : tie.Need-add-at Inv-loop μ-loop
-add-at c = omega (arith, most (c .before), turn (read-at (c .before)) .before .loop .inv .1, turn (read-at (c .before)) .before .before .before .good)
+add-at c =
+    let at-loop = turn (read-at (c .before)) .before in
+    omega (arith, most (c .before), at-loop .loop .inv .1, at-loop .before .before .good)
 
 loop-less : tie.Need-loop-less Inv-loop μ-loop
 loop-less c =

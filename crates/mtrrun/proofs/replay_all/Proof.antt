@@ -1,5 +1,5 @@
--- `replay_all` meets its contract. The loop's invariant: the replay held is the one left by the bytes read, which are whole blocks where the input goes
--- on; both areas keep their lengths; and the count of bytes has room for the pieces that may come.
+-- `replay_all` meets its contract. The loop's invariant: the replay held is that left by the bytes read, which are whole blocks where the
+-- input goes on; both areas keep their lengths; and the count of bytes has room for the pieces that may come.
 use mathlib.Core.Path.{_≡_, refl, sym, ap, _∙_}
 use mathlib.Core.Bool.{true}
 use Prim.Native.Nat.{ℕ, _+_, _-_, _*_, _%_, _≤_, _<_}
@@ -13,7 +13,8 @@ use Rattle.mtrrun.proofs.replay_all.Tie as tie
 
 abbrev Inv-loop : tie.InvT-loop
 Inv-loop input₀ output₀ replay₀ read₀ pieces₀ more₀ input output replay read pieces more =
-    (length input ≡ 16384) × (length output ≡ 104160) × Held read replay × (more ≡ true → read % 512 ≡ 0) × (read + 16384 * pieces ≤ 9223372036854775808)
+    (length input ≡ 16384) × (length output ≡ 104160) × Held read replay × (more ≡ true → read % 512 ≡ 0)
+    × (read + 16384 * pieces ≤ 9223372036854775808)
 
 abbrev μ-loop : tie.MeasureT-loop
 μ-loop input₀ output₀ replay₀ read₀ pieces₀ more₀ input output replay read pieces more = pieces
