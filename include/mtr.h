@@ -187,7 +187,7 @@ typedef enum mtr_answer MTR_UNSIGNED {
      * The group's number is above 15, already open or not above the parent's.
      */
     MTR_REFUSED_GROUP_NUMBER = 3,
-    /* The ceiling, reservation or priority is outside its range. */
+    /* The ceiling or reservation is outside its range. */
     MTR_REFUSED_AMOUNT = 4,
     /* The ceiling or reservation exceeds what the group has free. */
     MTR_REFUSED_NO_ROOM = 5,
@@ -298,7 +298,7 @@ MTR_MUST_USE static inline const char *mtr_answer_text(mtr_answer answer)
     case MTR_REFUSED_GROUP_NUMBER:
         return "the group's number is above 15, already open or not above the parent's";
     case MTR_REFUSED_AMOUNT:
-        return "the ceiling, reservation or priority is outside its range";
+        return "the ceiling or reservation is outside its range";
     case MTR_REFUSED_NO_ROOM:
         return "the ceiling or reservation exceeds what the group has free";
     case MTR_REFUSED_GROUP_IN_USE:

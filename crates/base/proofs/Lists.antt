@@ -1,5 +1,5 @@
 -- Laws of lists of thread numbers: sums over a list and before a thread, what taking a number out leaves, what stands before what,
--- and that distinct numbers below k are at most k. Each goes by induction on the list with a case for the entry that is the one.
+-- and that distinct numbers below k are at most k. Each goes by induction on the list with a case for "this entry is the one".
 use Prim.Native.Nat.{ℕ, zero, suc, _+_, _*_, _≤_, _<_}
 use mathlib.Core.Path.{_≡_, refl, sym, ap, subst, _∙_}
 use mathlib.Core.List.{List, [], _∷_, _++_}

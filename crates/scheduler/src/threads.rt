@@ -2,16 +2,15 @@
 // old values if it is refused: so the compiler keeps one state and copies it out once. A thread number above 63 is refused
 // whatever the entry that stands for it holds.
 ghost use mathlib.Core.Path.{_≡_};
-ghost use mathlib.Core.Bool.{true, not, cond, _||_};
-ghost use mathlib.Core.List.{[], _∷_, _++_};
+ghost use mathlib.Core.Bool.{true, cond, _||_};
+ghost use mathlib.Core.List.{_++_};
 ghost use Prim.Native.Nat.{_+_, _-_, _*_, min, _≤_, _<_};
-ghost use lib.Dec.{ltb, leb, eqb};
+ghost use lib.Dec.{eqb};
 ghost use lib.ListN.{take, drop};
-ghost use Rattle.base.specs.Checks.{_⇒_, firstOf};
 ghost use Rattle.order.specs.Queue.{requeue};
-ghost use Rattle.scheduler.specs.State.{noThread, meterLimit, meterMost, sliceMost};
+ghost use Rattle.scheduler.specs.State.{noThread, meterMost, sliceMost};
 ghost use Rattle.scheduler.specs.Sound.{sound};
-ghost use Rattle.scheduler.specs.Refusals.{remove, wake, dispatch, report, startRefusal};
+ghost use Rattle.scheduler.specs.Refusals.{remove, wake, dispatch, report};
 ghost use Rattle.scheduler.specs.Effects.{renewed, chargedThread, wokenThread, unstarted};
 ghost use Rattle.scheduler.specs.Answers.{answeredTo, startAnswered};
 use crate::Answer;
@@ -250,98 +249,6 @@ fn searched(code: u32, count: u32) -> u32
     0
 }
 
-// The number that a start is refused with, or 0.
-fn start_code(thousandth: u64, interval: u64) -> u32
-    ensures { λ r. ⌜ r ≡ startRefusal thousandth interval ⌝ }
-{
-    if thousandth < Settings::THOUSANDTH_LEAST as u64 {
-        return refusal::SETTINGS;
-    }
-    if (Settings::THOUSANDTH_MOST as u64) < thousandth {
-        return refusal::SETTINGS;
-    }
-    if interval < Settings::INTERVAL_LEAST as u64 {
-        return refusal::SETTINGS;
-    }
-    if (Settings::INTERVAL_MOST as u64) < interval {
-        return refusal::SETTINGS;
-    }
-    0
-}
-
-// The number that removing a thread of a status is refused with, or 0.
-fn remove_code(ok: bool, number: u64, status: u8, running: u32) -> u32
-    ensures { λ r. ⌜ r ≡ firstOf ((not ok ⇒ 16) ∷ (ltb 63 number || not (ltb 0 status) ⇒ 7) ∷ (eqb running number ⇒ 9) ∷ []) ⌝ }
-{
-    if !ok {
-        return refusal::UNSOUND;
-    }
-    if Scheduler::THREADS as u64 <= number {
-        return refusal::NO_THREAD;
-    }
-    if status == 0 {
-        return refusal::NO_THREAD;
-    }
-    if running as u64 == number {
-        return refusal::THREAD_RUNNING;
-    }
-    0
-}
-
-// The number that waking a thread of a status is refused with, or 0.
-fn wake_code(ok: bool, number: u64, status: u8) -> u32
-    ensures { λ r. ⌜ r ≡ firstOf ((not ok ⇒ 16) ∷ (ltb 63 number || not (ltb 0 status) ⇒ 7) ∷ (not (eqb status 2) ⇒ 10) ∷ []) ⌝ }
-{
-    if !ok {
-        return refusal::UNSOUND;
-    }
-    if Scheduler::THREADS as u64 <= number {
-        return refusal::NO_THREAD;
-    }
-    if status == 0 {
-        return refusal::NO_THREAD;
-    }
-    if status != Thread::BLOCKED {
-        return refusal::NOT_BLOCKED;
-    }
-    0
-}
-
-// The number that a dispatch is refused with, or 0.
-fn dispatch_code(ok: bool, running: u32, meter: u64) -> u32
-    ensures { λ r. ⌜ r ≡ firstOf ((not ok ⇒ 16) ∷ (not (eqb running 64) ⇒ 12) ∷ (leb meterLimit meter ⇒ 15) ∷ []) ⌝ }
-{
-    if !ok {
-        return refusal::UNSOUND;
-    }
-    if running != Scheduler::THREADS {
-        return refusal::BUSY;
-    }
-    if Scheduler::METER_LIMIT <= meter {
-        return refusal::METER_FULL;
-    }
-    0
-}
-
-// The number that a report is refused with, or 0.
-fn report_code(ok: bool, running: u32, reason: u64, slice: u32, used: u64) -> u32
-    ensures { λ r. ⌜ r ≡ firstOf ((not ok ⇒ 16) ∷ (eqb running 64 ⇒ 11) ∷ (ltb 3 reason ⇒ 14) ∷ (ltb slice used ⇒ 13) ∷ []) ⌝ }
-{
-    if !ok {
-        return refusal::UNSOUND;
-    }
-    if running == Scheduler::THREADS {
-        return refusal::NOTHING_RUNNING;
-    }
-    if EXIT < reason {
-        return refusal::REASON;
-    }
-    if (slice as u64) < used {
-        return refusal::OVER_SLICE;
-    }
-    0
-}
-
 impl Scheduler {
     // All zeros, which is no sound state.
     fn unstarted() -> Self
@@ -372,7 +279,7 @@ impl Scheduler {
     pub fn start(thousandth: u64, interval: u64) -> Answered
         ensures { λ r. ⌜ r ≡ startAnswered thousandth interval ⌝ }
     {
-        let code = start_code(thousandth, interval);
+        let code = refusal::start_code(thousandth, interval);
         let mut answer = Answer::Refused(code);
         let mut state = Self::unstarted();
         if code == 0 {
@@ -436,7 +343,7 @@ impl Scheduler {
     {
         let at = (number % Self::THREADS as u64) as usize;
         let thread = self.threads[at];
-        let code = remove_code(ok, number, thread.status, self.running);
+        let code = refusal::remove_code(ok, number, thread.status, self.running);
         let accepted = code == 0;
         let count = self.count;
         let list = self.order;
@@ -457,7 +364,7 @@ impl Scheduler {
     {
         let at = (number % Self::THREADS as u64) as usize;
         let thread = self.threads[at];
-        let code = wake_code(ok, number, thread.status);
+        let code = refusal::wake_code(ok, number, thread.status);
         let woken = thread.woken(code == 0, self.meter);
         self.threads[at] = woken;
         Answered {
@@ -471,7 +378,7 @@ impl Scheduler {
         ensures { λ r. ⌜ r ≡ answeredTo dispatch self ⌝ }
     {
         let running = self.running;
-        let code = dispatch_code(ok, running, self.meter);
+        let code = refusal::dispatch_code(ok, running, self.meter);
         let count = searched(code, self.count);
         let mut stop = count;
         let mut before: u32 = 0;
@@ -505,7 +412,7 @@ impl Scheduler {
         let at = (running % Self::THREADS) as usize;
         let thread = self.threads[at];
         let slice = thread.slice(self.settings.interval);
-        let code = report_code(ok, running, reason, slice, used);
+        let code = refusal::report_code(ok, running, reason, slice, used);
         let charges = code == 0;
         let count = self.count;
         let list = self.order;

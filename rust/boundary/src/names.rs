@@ -71,6 +71,8 @@ pub const NOT_STARTED: &str = "REFUSED_NOT_STARTED";
 const SCHEDULER: &str = "crates/scheduler/src/lib.rt";
 const RUN: &str = "crates/scheduler/src/threads.rt";
 const PRIORITY: &str = "crates/priority/src/lib.rt";
+const REFUSAL: &str = "crates/scheduler/src/refusal.rt";
+const ROSTER: &str = "crates/accounts/src/roster.rt";
 const REPLAY: &str = "crates/replay/src/lib.rt";
 /// Where the version stands.
 pub const VERSION: &str = "crates/abi/src/version.rt";
@@ -187,12 +189,12 @@ pub const FAMILIES: [Family; 10] = [
             ),
             one(
                 "LOWEST_PRIORITY",
-                constant(PRIORITY, "LEAST"),
+                constant(PRIORITY, "LOWEST"),
                 "The lowest priority.",
             ),
             one(
                 "HIGHEST_PRIORITY",
-                constant(PRIORITY, "MOST"),
+                constant(PRIORITY, "HIGHEST"),
                 "The highest priority.",
             ),
         ],
@@ -203,73 +205,14 @@ pub const FAMILIES: [Family; 10] = [
         c: "mtr_answer",
         names: &[
             one("ACCEPTED", number(0), "The call is accepted."),
-            one(
-                "REFUSED_SETTINGS",
-                number(1),
-                "m or P is outside its range.",
-            ),
-            one(
-                "REFUSED_NO_GROUP",
-                number(2),
-                "The group or parent is above 15 or not open, or group 0 is to be closed.",
-            ),
-            one(
-                "REFUSED_GROUP_NUMBER",
-                number(3),
-                "The group's number is above 15, already open or not above the parent's.",
-            ),
-            one(
-                "REFUSED_AMOUNT",
-                number(4),
-                "The ceiling, reservation or priority is outside its range.",
-            ),
-            one(
-                "REFUSED_NO_ROOM",
-                number(5),
-                "The ceiling or reservation exceeds what the group has free.",
-            ),
-            one(
-                "REFUSED_GROUP_IN_USE",
-                number(6),
-                "The group has a thread or a child.",
-            ),
-            one(
-                "REFUSED_NO_THREAD",
-                number(7),
-                "The thread's number is above 63 or not admitted.",
-            ),
-            one(
-                "REFUSED_ALREADY_ADMITTED",
-                number(8),
-                "The thread is already admitted.",
-            ),
-            one(
-                "REFUSED_THREAD_RUNNING",
-                number(9),
-                "The thread to remove is running.",
-            ),
-            one(
-                "REFUSED_NOT_BLOCKED",
-                number(10),
-                "The thread to wake is not blocked.",
-            ),
-            one("REFUSED_NOTHING_RUNNING", number(11), "Nothing is running."),
-            one("REFUSED_BUSY", number(12), "A thread is running."),
-            one(
-                "REFUSED_OVER_SLICE",
-                number(13),
-                "More is used than the slice.",
-            ),
-            one("REFUSED_REASON", number(14), "The reason is above 3."),
-            one(
-                "REFUSED_METER_FULL",
-                number(15),
-                "The meter is at its limit.",
-            ),
-            one("REFUSED_UNSOUND", number(16), "The state is not sound."),
+            Names::All {
+                file: REFUSAL,
+                start: REFUSED,
+                of: "u32",
+            },
             one(
                 "REFUSED_LENGTH",
-                number(17),
+                constant(ROSTER, "LENGTH"),
                 "The area is not 512 bytes, or the table is too short.",
             ),
             one(

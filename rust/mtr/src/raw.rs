@@ -87,7 +87,7 @@ pub const REFUSED_SETTINGS: u32 = 1;
 pub const REFUSED_NO_GROUP: u32 = 2;
 /// The group's number is above 15, already open or not above the parent's.
 pub const REFUSED_GROUP_NUMBER: u32 = 3;
-/// The ceiling, reservation or priority is outside its range.
+/// The ceiling or reservation is outside its range.
 pub const REFUSED_AMOUNT: u32 = 4;
 /// The ceiling or reservation exceeds what the group has free.
 pub const REFUSED_NO_ROOM: u32 = 5;
@@ -188,7 +188,7 @@ pub const fn answer_text(answer: u32) -> &'static str {
         REFUSED_GROUP_NUMBER => {
             "the group's number is above 15, already open or not above the parent's"
         }
-        REFUSED_AMOUNT => "the ceiling, reservation or priority is outside its range",
+        REFUSED_AMOUNT => "the ceiling or reservation is outside its range",
         REFUSED_NO_ROOM => "the ceiling or reservation exceeds what the group has free",
         REFUSED_GROUP_IN_USE => "the group has a thread or a child",
         REFUSED_NO_THREAD => "the thread's number is above 63 or not admitted",

@@ -41,6 +41,24 @@ pub const YIELD: u64 = 2;
 pub const EXIT: u64 = 3;
 impl Thread { pub const RUNNABLE: u8 = 1; pub const BLOCKED: u8 = 2; }
 ";
+const REFUSAL: &str = "
+// The settings are bad.
+pub const SETTINGS: u32 = 1;
+
+// The state is not
+// sound.
+pub const UNSOUND: u32 = 16;
+const HIDDEN: u32 = 3;
+pub const WIDTH: u64 = 4;
+";
+const RECORD: &str = "
+#[repr(C)]
+pub struct Record { pub kind: u8, pub ticks: u32 }
+
+// Opens.
+pub const OPEN: u8 = 1;
+pub const BYTES: usize = 16;
+";
 const BLOCKS: &str = "
 use record::Record;
 #[repr(C)]
@@ -67,10 +85,12 @@ fn with(calls: &str) -> Result<Interface, Error> {
             "crates/abi/src/blocks.rt" => BLOCKS,
             "crates/scheduler/src/lib.rt" => SCHEDULER,
             "crates/scheduler/src/threads.rt" => RUN,
-            "crates/priority/src/lib.rt" => "pub const LEAST: u64 = 1; pub const MOST: u64 = 10;",
-            "crates/record/src/lib.rt" => {
-                "#[repr(C)] pub struct Record { pub kind: u8, pub ticks: u32 }"
+            "crates/priority/src/lib.rt" => {
+                "pub const LOWEST: u64 = 1; pub const HIGHEST: u64 = 10;"
             }
+            "crates/scheduler/src/refusal.rt" => REFUSAL,
+            "crates/accounts/src/roster.rt" => "pub const LENGTH: u32 = 17;",
+            "crates/record/src/lib.rt" => RECORD,
             "crates/replay/src/lib.rt" => "pub const BLOCK: usize = 512;\nconst HALTED: u32 = 20;",
             _ => return Err("no such file".to_string()),
         };
@@ -215,7 +235,7 @@ fn names_that_clash() {
     let text = format!("#[repr(C)] pub struct Record {{ pub x: u8 }}\n{DOC}pub extern \"C\" fn mtr_do(s: Record) {{}}");
     assert_eq!(
             with(&text).unwrap_err().to_string(),
-            "crates/record/src/lib.rt:1: crates/abi/src/calls.rt has a struct `Record` at the boundary too"
+            "crates/record/src/lib.rt:3: crates/abi/src/calls.rt has a struct `Record` at the boundary too"
         );
     let text = format!("{DOC}pub extern \"C\" fn other() {{}}");
     assert_eq!(
@@ -237,4 +257,29 @@ fn every_module_is_printed() {
 fn names_in_c() {
     assert_eq!(c_name("Scheduler"), "mtr_scheduler");
     assert_eq!(c_name("LagLine"), "mtr_lag_line");
+}
+
+/// The public constants of a source, of one type, with their comments.
+#[test]
+fn names_of_a_source() {
+    let found = with("").unwrap();
+    let family = |c: &str| {
+        let family = found.families.iter().find(|f| f.c == c).unwrap();
+        let names = family.names.iter();
+        names
+            .map(|n| (n.name.clone(), n.value, n.doc.clone()))
+            .collect::<Vec<_>>()
+    };
+    let of = |name: &str, value, doc: &str| (name.to_string(), value, doc.to_string());
+    let answers = family("mtr_answer");
+    assert_eq!(answers[0].1, 0);
+    assert_eq!(
+        answers[1],
+        of("REFUSED_SETTINGS", 1, "The settings are bad.")
+    );
+    assert_eq!(
+        answers[2],
+        of("REFUSED_UNSOUND", 16, "The state is not sound.")
+    );
+    assert_eq!(answers[3].1, 17);
 }

@@ -40,121 +40,57 @@ fn blocks(of: &[&[Record]]) -> Vec<u8> {
         .collect()
 }
 
+/// A record by its fields.
+fn record(kind: u8, [subject, group, reason]: [u8; 3], amount: u16, ticks: u32) -> Record {
+    Record {
+        kind,
+        subject,
+        group,
+        reason,
+        amount,
+        ticks,
+    }
+}
+
 #[test]
 fn every_kind_has_its_line() {
-    let zero = Record::default();
     let table = [
         (
             "start thousandth 100 interval 20000",
-            Record {
-                kind: kind::START,
-                amount: 100,
-                ticks: 20_000,
-                ..zero
-            },
+            record(kind::START, [0, 0, 0], 100, 20_000),
         ),
         (
             "open 2 parent 0 ceiling 300",
-            Record {
-                kind: kind::OPEN,
-                subject: 2,
-                amount: 300,
-                ..zero
-            },
+            record(kind::OPEN, [2, 0, 0], 300, 0),
         ),
         (
             "open 255 parent 254 ceiling 65535",
-            Record {
-                kind: kind::OPEN,
-                subject: 255,
-                group: 254,
-                amount: 65_535,
-                ..zero
-            },
+            record(kind::OPEN, [255, 254, 0], 65_535, 0),
         ),
-        (
-            "close 2",
-            Record {
-                kind: kind::CLOSE,
-                subject: 2,
-                ..zero
-            },
-        ),
+        ("close 2", record(kind::CLOSE, [2, 0, 0], 0, 0)),
         (
             "admit 5 group 1 reservation 500",
-            Record {
-                kind: kind::ADMIT,
-                subject: 5,
-                group: 1,
-                amount: 500,
-                ..zero
-            },
+            record(kind::ADMIT, [5, 1, 0], 500, 0),
         ),
-        (
-            "remove 5",
-            Record {
-                kind: kind::REMOVE,
-                subject: 5,
-                ..zero
-            },
-        ),
-        (
-            "wake 5",
-            Record {
-                kind: kind::WAKE,
-                subject: 5,
-                ..zero
-            },
-        ),
-        (
-            "dispatch",
-            Record {
-                kind: kind::DISPATCH,
-                ..zero
-            },
-        ),
+        ("remove 5", record(kind::REMOVE, [5, 0, 0], 0, 0)),
+        ("wake 5", record(kind::WAKE, [5, 0, 0], 0, 0)),
+        ("dispatch", record(kind::DISPATCH, [0, 0, 0], 0, 0)),
         (
             "report tick 20000",
-            Record {
-                kind: kind::REPORT,
-                ticks: 20_000,
-                ..zero
-            },
+            record(kind::REPORT, [0, 0, 0], 0, 20_000),
         ),
         (
             "report block 12000",
-            Record {
-                kind: kind::REPORT,
-                reason: 1,
-                ticks: 12_000,
-                ..zero
-            },
+            record(kind::REPORT, [0, 0, 1], 0, 12_000),
         ),
-        (
-            "report yield 0",
-            Record {
-                kind: kind::REPORT,
-                reason: 2,
-                ..zero
-            },
-        ),
+        ("report yield 0", record(kind::REPORT, [0, 0, 2], 0, 0)),
         (
             "report exit 4294967295",
-            Record {
-                kind: kind::REPORT,
-                reason: 3,
-                ticks: u32::MAX,
-                ..zero
-            },
+            record(kind::REPORT, [0, 0, 3], 0, u32::MAX),
         ),
         (
             "report reason 200 5",
-            Record {
-                kind: kind::REPORT,
-                reason: 200,
-                ticks: 5,
-                ..zero
-            },
+            record(kind::REPORT, [0, 0, 200], 0, 5),
         ),
     ];
     for (line, record) in table {

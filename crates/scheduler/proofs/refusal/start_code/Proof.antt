@@ -8,8 +8,8 @@ use borrow.Author.Tests.{le-leb, lt-leb}
 use Rattle.base.specs.Checks.{within, firstOf}
 use Rattle.scheduler.specs.State.{sliceMost}
 use Rattle.scheduler.specs.Refusals.{startRefusal}
-use Rattle.scheduler.proofs.threads.start_code.Statement.{statement}
-use Rattle.scheduler.proofs.threads.start_code.Tie as tie
+use Rattle.scheduler.proofs.refusal.start_code.Statement.{statement}
+use Rattle.scheduler.proofs.refusal.start_code.Tie as tie
 
 -- past the range of m
 module _ (c : tie.Else2) where

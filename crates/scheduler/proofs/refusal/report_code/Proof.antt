@@ -2,8 +2,8 @@
 use borrow.Author.Tests.{lt-ltb, le-ltb, eq-eqb, ne-eqb, not-true, not-false}
 use native.Mathlib.Omega.{arith}
 use Rattle.base.specs.Checks.{firstOf}
-use Rattle.scheduler.proofs.threads.report_code.Statement.{statement}
-use Rattle.scheduler.proofs.threads.report_code.Tie as tie
+use Rattle.scheduler.proofs.refusal.report_code.Statement.{statement}
+use Rattle.scheduler.proofs.refusal.report_code.Tie as tie
 
 returns : tie.Need-returns
 unfolding firstOf

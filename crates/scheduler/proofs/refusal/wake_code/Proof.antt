@@ -3,8 +3,8 @@ use borrow.Author.Needs.{needs}
 use borrow.Author.Tests.{lt-ltb, le-ltb, ne-eqb, not-true, not-false}
 use native.Mathlib.Omega.{arith}
 use Rattle.base.specs.Checks.{firstOf}
-use Rattle.scheduler.proofs.threads.wake_code.Statement.{statement}
-use Rattle.scheduler.proofs.threads.wake_code.Tie as tie
+use Rattle.scheduler.proofs.refusal.wake_code.Statement.{statement}
+use Rattle.scheduler.proofs.refusal.wake_code.Tie as tie
 
 returns : tie.Need-returns
 unfolding firstOf

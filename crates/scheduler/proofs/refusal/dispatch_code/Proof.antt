@@ -3,8 +3,8 @@ use borrow.Author.Tests.{le-leb, lt-leb, ne-eqb, not-true, not-false}
 use native.Mathlib.Omega.{arith}
 use Rattle.base.specs.Checks.{firstOf}
 use Rattle.scheduler.specs.State.{meterLimit}
-use Rattle.scheduler.proofs.threads.dispatch_code.Statement.{statement}
-use Rattle.scheduler.proofs.threads.dispatch_code.Tie as tie
+use Rattle.scheduler.proofs.refusal.dispatch_code.Statement.{statement}
+use Rattle.scheduler.proofs.refusal.dispatch_code.Tie as tie
 
 returns : tie.Need-returns
 unfolding firstOf
