@@ -1,44 +1,138 @@
 // Replays the journal on standard input and prints a line for each record.
+ghost use mathlib.Core.Path.{_≡_};
+ghost use Prim.Native.Nat.{_≤_};
+ghost use lib.ListN.{length, take};
+ghost use Rattle.mtrrun.specs.Inner.{Replayed, Held};
+use libc::STDERR_FILENO;
 use libc::STDIN_FILENO;
 use libc::STDOUT_FILENO;
 use replay::Replay;
 
-// 32 blocks a read, and the room that they are asked for.
+// 32 blocks a piece, and the room that they are asked for.
 const INPUT: usize = 32 * replay::BLOCK;
 
 const OUTPUT: usize = 32 * replay::ROOM;
 
-// The replay after a turn, and whether the input may go on.
-struct Turn {
+// How many bytes were read, and whether the last read failed.
+struct Filled {
+    got: usize,
+    failed: bool,
+}
+
+// The replay after a piece, how many bytes of the piece were replayed, and whether the input goes on.
+struct Piece {
     replay: Replay,
+    read: usize,
     more: bool,
 }
 
-// Reads the next blocks, replays them and writes what they print. Only the input's end leaves a read short.
-fn run_some(replay: Replay) -> Turn {
-    let mut input = [0u8; INPUT];
-    let got = io::read_full(STDIN_FILENO, &mut input);
-    let mut output = [0u8; OUTPUT];
-    let ran = replay.run(&input[..got], &mut output);
-    let used = ran.used;
-    let written = io::write_all(STDOUT_FILENO, &output[..used]);
-    let after = ran.replay;
-    Turn {
-        replay: after,
-        more: written && got == INPUT,
+// The replay after the whole input, and how many bytes of it were replayed.
+struct Done {
+    replay: Replay,
+    read: u64,
+}
+
+// Reads until the area is full, the input ends or a read fails.
+fn fill(input: &mut [u8]) -> Filled
+    ensures { λ r. ⌜ r .got ≤ length (now (input .exit)) ⌝ }
+{
+    let mut at: usize = 0;
+    while at < input.len() {
+        let moved = libc::read(STDIN_FILENO, &mut input[at..]);
+        let got = io::count(moved, &input[at..]);
+        if got == 0 {
+            return Filled {
+                got: at,
+                failed: moved < 0,
+            };
+        }
+        at += got;
+    }
+    Filled {
+        got: at,
+        failed: false,
     }
 }
 
-// A proved loop has to end, and nothing says that the input does: so turns are counted down from a number that no run uses up (2^50 turns
-// are 16 EiB of input).
-fn main() {
-    let mut turns: u64 = 1125899906842624;
-    let mut replay = Replay::new();
-    let mut more = true;
-    while turns > 0 && more {
-        let next = run_some(replay);
-        replay = next.replay;
-        more = next.more;
-        turns -= 1;
+// The bytes that are replayed: after a read that failed the whole blocks alone, since what would have followed is not known.
+fn replayed(got: usize, failed: bool) -> usize
+    ensures { λ r. ⌜ r ≤ got ⌝ }
+{
+    if failed {
+        got / replay::BLOCK * replay::BLOCK
+    } else {
+        got
     }
+}
+
+// Says why the input ends in the middle.
+fn say_unread(failed: bool) {
+    if failed {
+        os::fail(b"mtrrun: standard input");
+    }
+}
+
+// Says why the output ends here. A reader that has closed its end of a pipe wants no more: that is no failure.
+fn say_unwritten(written: bool) {
+    if written {
+        return;
+    }
+    if os::errno() != libc::EPIPE {
+        os::fail(b"mtrrun: standard output");
+    }
+}
+
+// Reads the next blocks, replays them and writes what they print.
+fn run_some(replay: Replay, input: &mut [u8], output: &mut [u8]) -> Piece
+    requires { ⌜ (length (now input) ≡ 16384) × (length (now output) ≡ 104160) ⌝ }
+    ensures { λ r. ⌜ Replayed (take (r .read) (now (input .exit))) replay r ⌝ }
+{
+    let filled = fill(input);
+    say_unread(filled.failed);
+    let read = replayed(filled.got, filled.failed);
+    let ran = replay.run(&input[..read], output);
+    let used = ran.used;
+    let written = io::write_all(STDOUT_FILENO, &output[..used]);
+    say_unwritten(written);
+    let after = ran.replay;
+    Piece {
+        replay: after,
+        read: read,
+        more: written && read == INPUT,
+    }
+}
+
+// Replays the input piece by piece. A proved loop has to end, and nothing says that the input does: so pieces are counted down from a
+// number that no run uses up (2^49 pieces are 8 EiB of input).
+fn replay_all() -> Done
+    ensures { λ r. ⌜ Held (r .read) (r .replay) ⌝ }
+{
+    let mut input = [0u8; INPUT];
+    let mut output = [0u8; OUTPUT];
+    let mut replay = Replay::new();
+    let mut read: u64 = 0;
+    let mut pieces: u64 = 562949953421312;
+    let mut more = true;
+    while pieces > 0 && more {
+        let piece = run_some(replay, &mut input, &mut output);
+        replay = piece.replay;
+        read += piece.read as u64;
+        more = piece.more;
+        pieces -= 1;
+    }
+    Done {
+        replay: replay,
+        read: read,
+    }
+}
+
+fn main() {
+    if os::arg_count() > 1 {
+        io::write_all(
+            STDERR_FILENO,
+            b"mtrrun: takes no argument; the journal is its standard input\n",
+        );
+        return;
+    }
+    replay_all();
 }

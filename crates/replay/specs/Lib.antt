@@ -1,4 +1,5 @@
 pub mod Replay
+pub mod Turn
 pub mod Run
 pub mod Inner
 pub mod Examples

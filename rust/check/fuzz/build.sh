@@ -50,7 +50,8 @@ quiet staticlib abi
 made abi.o staticlib/libabi.a
 quiet check mtrrun
 made program.o obj/mtrrun.o
-objcopy --redefine-sym main=mtrrun_main --redefine-sym read=fuzz_read --redefine-sym write=fuzz_write "$out/program.o" "$out/mtrrun.o"
+objcopy --redefine-sym main=mtrrun_main --redefine-sym read=fuzz_read --redefine-sym write=fuzz_write \
+    --redefine-sym rattle_arg_count=fuzz_arg_count "$out/program.o" "$out/mtrrun.o"
 
 # The harness and the model, with the same coverage and with overflow checked. A target that is named keeps the flags from build scripts.
 host=$(rustc -vV | sed -n 's/^host: //p')
@@ -59,5 +60,5 @@ RUSTFLAGS="--cfg fuzzing -C overflow-checks -C passes=sancov-module$(llvm level=
     CARGO_TARGET_DIR=$out/cargo cargo rustc --quiet --offline -j1 --release --target "$host" -p check --lib --crate-type staticlib
 
 # abi.o comes first, so that the archive's own copy of the library is not taken.
-clang -fsanitize=fuzzer "$out/abi.o" "$out/mtrrun.o" "$out/cargo/$host/release/libcheck.a" -o "$out/replay"
+clang -fsanitize=fuzzer "$out/abi.o" "$out/mtrrun.o" "$out/cargo/$host/release/libcheck.a" "$home/lib/libos_c.a" -o "$out/replay"
 echo "target/fuzz/replay"

@@ -1,7 +1,7 @@
 //! The entries of the builds with coverage: that of libFuzzer, with `mtrrun` as a function, and that of `fuzz/coverage.sh`.
 //!
-//! `fuzz/build.sh` compiles the program's proved module with coverage and renames its `main`, `read` and `write` to the
-//! functions named here, so that the program runs within the fuzzer.
+//! `fuzz/build.sh` compiles the program's proved module with coverage and renames its `main`, `read`, `write` and
+//! `rattle_arg_count` to the functions named here, so that the program runs within the fuzzer.
 
 use crate::attack::{Attack, ROUNDS, SEED};
 use crate::journal::{case, replay, Case};
@@ -63,6 +63,12 @@ unsafe extern "C" fn fuzz_write(file: c_int, from: *const u8, length: usize) -> 
             .extend(unsafe { std::slice::from_raw_parts(from, count) });
         count as isize
     })
+}
+
+/// The program's own name is its one argument.
+#[no_mangle]
+extern "C" fn fuzz_arg_count() -> usize {
+    1
 }
 
 /// What the program prints for a case.

@@ -10,10 +10,6 @@ use Rattle.abi.specs.Blocks.{foundOf}
 use borrow.Author.Needs.{needs}
 use Rattle.abi.proofs.blocks.mtr_by_value_read_block.Statement.{statement}
 use Rattle.abi.proofs.blocks.mtr_by_value_read_block.Tie as tie
-use Rattle.abi.proofs.blocks.mtr_by_value_read_block.Reads as reads
-use Rattle.abi.proofs.blocks.mtr_by_value_read_block.Lts as lts
-use Rattle.abi.proofs.blocks.number.Reads as number-reads
-use Rattle.block.proofs.read.Reads as read-reads
 
 abbrev withAnswer : ℕ → Reading → Found
 withAnswer n q = record { answer = n; count = q .count; records = q .records }

@@ -1,0 +1,51 @@
+-- Pieces of the input: what a run over one leaves, and that one after the other they leave what all the bytes do.
+use mathlib.Core.Path.{_≡_, refl, sym, ap, _∙_}
+use mathlib.Core.List.{List, [], _++_}
+use mathlib.Core.Bool.{true}
+use Prim.Native.Nat.{ℕ, _+_, _-_, _*_, _/_, _%_, _≤_}
+use native.Mathlib.Omega.{arith}
+use borrow.Author.Tests.{le-leb}
+use lib.Dec.{leb}
+use lib.ListN.{length, take, drop, length-append, length-take, length-drop}
+use Rattle.replay.specs.declared.Replay.{Replay}
+use Rattle.replay.specs.declared.Ran.{Ran}
+use Rattle.replay.specs.Replay.{blocksIn, leftBy, beginning}
+use Rattle.replay.specs.Run.{enough, runOf}
+use Rattle.mtrrun.specs.declared.Piece.{Piece}
+use Rattle.mtrrun.specs.Inner.{Replayed, Held}
+use Rattle.replay.proofs.Chunks.{pieces-left}
+
+-- the area has room for the blocks of a piece
+pub run-left : (bytes out : List ℕ) (p : Replay) (x : Ran) → length bytes ≤ 16384 → length out ≡ 104160 → x ≡ runOf bytes out p
+    → x .replay ≡ leftBy (blocksIn bytes) bytes p
+unfolding runOf enough blocksIn
+run-left bytes out p x few room e =
+    let t : leb (3255 * ((length bytes + 511) / 512)) (length out) ≡ true =
+    le-leb (3255 * ((length bytes + 511) / 512)) (length out) (omega arith) in
+    ap (λ (y : Ran). y .replay) e ∙ simp t
+
+pub held-none : (q : Replay) → q ≡ beginning → Held 0 q
+unfolding blocksIn leftBy
+held-none q e = record { bytes = []; size = refl; left = e }
+
+pub held-more : (n : ℕ) (q : Replay) (bytes : List ℕ) (r : Piece) → Held n q → n % 512 ≡ 0 → Replayed bytes q r
+    → Held (n + r .read) (r .replay)
+unfolding blocksIn
+held-more n q bytes r h z w =
+    let a = h .bytes in
+    let whole : length a ≡ 512 * ((length a + 511) / 512) = omega (arith, h .size, z) in
+    let count : (length (a ++ bytes) + 511) / 512 ≡ (length a + 511) / 512 + (length bytes + 511) / 512 =
+    ap (λ (k : ℕ). (k + 511) / 512) (length-append a bytes) ∙ omega (arith, whole) in
+    record {
+      bytes = a ++ bytes;
+      size = length-append a bytes ∙ omega (arith, h .size, w .size);
+      left =
+          w .left
+          ∙ ap (leftBy ((length bytes + 511) / 512) bytes) (h .left)
+          ∙ sym (pieces-left ((length a + 511) / 512) ((length bytes + 511) / 512) a bytes beginning whole)
+          ∙ ap (λ (k : ℕ). leftBy k (a ++ bytes) beginning) (sym count);
+    }
+
+-- a part of an area has no more than what follows its start
+pub part-most : (l : List ℕ) (a k : ℕ) → length (take k (drop a l)) ≤ length l - a
+part-most l a k = omega (arith, length-take k (drop a l), length-drop a l)
