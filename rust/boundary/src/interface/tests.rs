@@ -282,4 +282,5 @@ fn names_of_a_source() {
         of("REFUSED_UNSOUND", 16, "The state is not sound.")
     );
     assert_eq!(answers[3].1, 17);
+    assert_eq!(family("mtr_kind"), [of("KIND_OPEN", 1, "Opens.")]);
 }
