@@ -75,6 +75,7 @@ const REFUSAL: &str = "crates/scheduler/src/refusal.rt";
 const ROSTER: &str = "crates/accounts/src/roster.rt";
 const RECORD: &str = "crates/record/src/lib.rt";
 const REPLAY: &str = "crates/replay/src/lib.rt";
+const BATCH: &str = "crates/scheduler/src/batch.rt";
 /// Where the version stands.
 pub const VERSION: &str = "crates/abi/src/version.rt";
 
@@ -228,7 +229,7 @@ pub const FAMILIES: [Family; 10] = [
             ),
             one(
                 NOT_STARTED,
-                constant(REPLAY, "HALTED"),
+                constant(BATCH, "HALTED"),
                 "In what mtrrun prints alone: no start is accepted since a refused block.",
             ),
         ],
