@@ -267,21 +267,21 @@ typedef enum mtr_opened MTR_UNSIGNED {
 
 /* Kinds of records, and the fields that each uses; the others are 0. */
 typedef enum mtr_kind MTR_UNSIGNED {
-    /* Open a group: subject, group is the parent, amount the ceiling. */
+    /* Opens a group: subject, group (the parent), amount (the ceiling). */
     MTR_KIND_OPEN = 1,
-    /* Close a group: subject. */
+    /* Closes a group: subject. */
     MTR_KIND_CLOSE = 2,
-    /* Admit a thread: subject, group, amount is the reservation. */
+    /* Admits a thread: subject, group, amount (the reservation). */
     MTR_KIND_ADMIT = 3,
-    /* Remove a thread: subject. */
+    /* Removes a thread: subject. */
     MTR_KIND_REMOVE = 4,
-    /* Wake a thread: subject. */
+    /* Wakes a thread: subject. */
     MTR_KIND_WAKE = 5,
-    /* Dispatch. */
+    /* Dispatches. */
     MTR_KIND_DISPATCH = 6,
-    /* Report: reason, ticks. */
+    /* Reports the running thread: reason, ticks (used). */
     MTR_KIND_REPORT = 7,
-    /* Start: amount is m, ticks is P. */
+    /* Starts anew: amount (m), ticks (P). */
     MTR_KIND_START = 8
 } mtr_kind;
 

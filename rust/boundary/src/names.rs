@@ -73,7 +73,9 @@ const RUN: &str = "crates/scheduler/src/threads.rt";
 const PRIORITY: &str = "crates/priority/src/lib.rt";
 const REFUSAL: &str = "crates/scheduler/src/refusal.rt";
 const ROSTER: &str = "crates/accounts/src/roster.rt";
+const RECORD: &str = "crates/record/src/lib.rt";
 const REPLAY: &str = "crates/replay/src/lib.rt";
+const BATCH: &str = "crates/scheduler/src/batch.rt";
 /// Where the version stands.
 pub const VERSION: &str = "crates/abi/src/version.rt";
 
@@ -227,7 +229,7 @@ pub const FAMILIES: [Family; 10] = [
             ),
             one(
                 NOT_STARTED,
-                constant(REPLAY, "HALTED"),
+                constant(BATCH, "HALTED"),
                 "In what mtrrun prints alone: no start is accepted since a refused block.",
             ),
         ],
@@ -300,23 +302,10 @@ pub const FAMILIES: [Family; 10] = [
         doc: "Kinds of records, and the fields that each uses; the others are 0.",
         of: "u8",
         c: "mtr_kind",
-        names: &[
-            one(
-                "KIND_OPEN",
-                number(1),
-                "Open a group: subject, group is the parent, amount the ceiling.",
-            ),
-            one("KIND_CLOSE", number(2), "Close a group: subject."),
-            one(
-                "KIND_ADMIT",
-                number(3),
-                "Admit a thread: subject, group, amount is the reservation.",
-            ),
-            one("KIND_REMOVE", number(4), "Remove a thread: subject."),
-            one("KIND_WAKE", number(5), "Wake a thread: subject."),
-            one("KIND_DISPATCH", number(6), "Dispatch."),
-            one("KIND_REPORT", number(7), "Report: reason, ticks."),
-            one("KIND_START", number(8), "Start: amount is m, ticks is P."),
-        ],
+        names: &[Names::All {
+            file: RECORD,
+            start: "KIND_",
+            of: "u8",
+        }],
     },
 ];

@@ -51,11 +51,27 @@ fn read_that_fails_in_the_middle() {
     std::thread::sleep(std::time::Duration::from_millis(500));
     drop(host);
     let (mut printed, mut message) = (Vec::new(), String::new());
-    program.stdout.take().unwrap().read_to_end(&mut printed).unwrap();
-    program.stderr.take().unwrap().read_to_string(&mut message).unwrap();
+    program
+        .stdout
+        .take()
+        .unwrap()
+        .read_to_end(&mut printed)
+        .unwrap();
+    program
+        .stderr
+        .take()
+        .unwrap()
+        .read_to_string(&mut message)
+        .unwrap();
     assert!(program.wait().unwrap().success());
-    assert_eq!(message, "mtrrun: standard input: Connection reset by peer\n");
-    assert_eq!(printed, std::fs::read(root().join("crates/mtrrun/stdout")).unwrap());
+    assert_eq!(
+        message,
+        "mtrrun: standard input: Connection reset by peer\n"
+    );
+    assert_eq!(
+        printed,
+        std::fs::read(root().join("crates/mtrrun/stdout")).unwrap()
+    );
 }
 
 #[test]
@@ -63,7 +79,10 @@ fn output_that_cannot_be_written() {
     let full = File::options().write(true).open("/dev/full").unwrap();
     let input = File::open(root().join("crates/mtrrun/stdin")).unwrap();
     let output = mtrrun().stdin(input).stdout(full).output().unwrap();
-    assert_eq!(said(&output), "mtrrun: standard output: No space left on device\n");
+    assert_eq!(
+        said(&output),
+        "mtrrun: standard output: No space left on device\n"
+    );
 }
 
 /// A reader that goes away is no failure: the signal is ignored here, so that the program sees EPIPE.
@@ -88,8 +107,15 @@ fn reader_that_goes_away() {
 
 #[test]
 fn argument() {
-    let output = mtrrun().arg("journal").stdin(Stdio::null()).output().unwrap();
-    assert_eq!(said(&output), "mtrrun: takes no argument; the journal is its standard input\n");
+    let output = mtrrun()
+        .arg("journal")
+        .stdin(Stdio::null())
+        .output()
+        .unwrap();
+    assert_eq!(
+        said(&output),
+        "mtrrun: takes no argument; the journal is its standard input\n"
+    );
     assert!(output.stdout.is_empty());
 }
 

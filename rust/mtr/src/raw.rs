@@ -160,21 +160,21 @@ pub const GROUP_OPEN: u8 = 1;
 
 // Kinds of records, and the fields that each uses; the others are 0.
 
-/// Open a group: subject, group is the parent, amount the ceiling.
+/// Opens a group: subject, group (the parent), amount (the ceiling).
 pub const KIND_OPEN: u8 = 1;
-/// Close a group: subject.
+/// Closes a group: subject.
 pub const KIND_CLOSE: u8 = 2;
-/// Admit a thread: subject, group, amount is the reservation.
+/// Admits a thread: subject, group, amount (the reservation).
 pub const KIND_ADMIT: u8 = 3;
-/// Remove a thread: subject.
+/// Removes a thread: subject.
 pub const KIND_REMOVE: u8 = 4;
-/// Wake a thread: subject.
+/// Wakes a thread: subject.
 pub const KIND_WAKE: u8 = 5;
-/// Dispatch.
+/// Dispatches.
 pub const KIND_DISPATCH: u8 = 6;
-/// Report: reason, ticks.
+/// Reports the running thread: reason, ticks (used).
 pub const KIND_REPORT: u8 = 7;
-/// Start: amount is m, ticks is P.
+/// Starts anew: amount (m), ticks (P).
 pub const KIND_START: u8 = 8;
 
 /// What an answer says, in words.

@@ -89,9 +89,10 @@ fn with(calls: &str) -> Result<Interface, Error> {
                 "pub const LOWEST: u64 = 1; pub const HIGHEST: u64 = 10;"
             }
             "crates/scheduler/src/refusal.rt" => REFUSAL,
+            "crates/scheduler/src/batch.rt" => "pub const HALTED: u32 = 20;",
             "crates/accounts/src/roster.rt" => "pub const LENGTH: u32 = 17;",
             "crates/record/src/lib.rt" => RECORD,
-            "crates/replay/src/lib.rt" => "pub const BLOCK: usize = 512;\nconst HALTED: u32 = 20;",
+            "crates/replay/src/lib.rt" => "pub const BLOCK: usize = 512;",
             _ => return Err("no such file".to_string()),
         };
         Ok(text.to_string())
@@ -282,4 +283,5 @@ fn names_of_a_source() {
         of("REFUSED_UNSOUND", 16, "The state is not sound.")
     );
     assert_eq!(answers[3].1, 17);
+    assert_eq!(family("mtr_kind"), [of("KIND_OPEN", 1, "Opens.")]);
 }
