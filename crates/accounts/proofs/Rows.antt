@@ -50,7 +50,8 @@ module _ (s : Scheduler) (k : Keys) (h : Sorted s k) where
   pub key-at : (i : ℕ) → i < k .count → Genuine s 64 (getD (k .keys) i noKey)
   key-at i l =
       subst (Genuine s 64) (sym (ap (λ (z : List Key). getD z i noKey) (h .keys)) ∙ getD-take (k .count) (k .keys) i noKey l)
-      (each-at (Genuine s 64) (ordered (keysBelow s 64)) noKey (each-ordered (Genuine s 64) (keysBelow s 64) (keys-genuine s 64)) i (omega (arith, sorted-length)))
+      (each-at (Genuine s 64) (ordered (keysBelow s 64)) noKey (each-ordered (Genuine s 64) (keysBelow s 64) (keys-genuine s 64)) i
+      (omega (arith, sorted-length)))
 
   pub key-bounded : (i : ℕ) → i < k .count → Bounded (s .meter) (threadAt s ((getD (k .keys) i noKey) .number))
   key-bounded i l = let g = key-at i l in bounded s ((getD (k .keys) i noKey) .number) (h .good) (g .low) (g .admitted)
@@ -58,11 +59,20 @@ module _ (s : Scheduler) (k : Keys) (h : Sorted s k) where
   pub none-filled : Filling s k (replicate 64 noEntry) 0
   none-filled = record { high = omega arith; wide = length-replicate 64 noEntry; made = refl }
 
-  pub fills : (rows : List Entry) (i : ℕ) → Filling s k rows i → i < k .count → (e : Entry) → e ≡ shown s (getD (k .keys) i noKey) → Filling s k (set rows i e) (i + 1)
+  pub fills : (rows : List Entry) (i : ℕ) → Filling s k rows i → i < k .count → (e : Entry) → e ≡ shown s (getD (k .keys) i noKey)
+      → Filling s k (set rows i e) (i + 1)
   fills rows i f l e is = record {
     high = omega arith;
     wide = length-set rows i e ∙ f .wide;
-    made = rw (add-one i, take-suc-set rows i e (omega (arith, f .wide, h .few)), take-suc (k .keys) i noKey (omega (arith, h .few, h .long)), map-snoc (shown s) (take i (k .keys)) (getD (k .keys) i noKey), f .made, is);
+    made =
+        rw (
+          add-one i,
+          take-suc-set rows i e (omega (arith, f .wide, h .few)),
+          take-suc (k .keys) i noKey (omega (arith, h .few, h .long)),
+          map-snoc (shown s) (take i (k .keys)) (getD (k .keys) i noKey),
+          f .made,
+          is,
+        );
   }
 
   pub all-filled : (p : Plan) → p .answer ≡ 0 → p .count ≡ k .count → (i : ℕ) → k .count ≤ i → Filling s k (p .rows) i → Filled s p
@@ -70,7 +80,8 @@ module _ (s : Scheduler) (k : Keys) (h : Sorted s k) where
   all-filled p a n i full f =
       let last : i ≡ k .count = omega (arith, f .high) in
       let made : take (p .count) (p .rows) ≡ map (shown s) (ordered (keysBelow s 64)) =
-      ap (λ (m : ℕ). take m (p .rows)) (n ∙ sym last) ∙ f .made ∙ ap (λ (m : ℕ). map (shown s) (take m (k .keys))) last ∙ ap (map (shown s)) (h .keys) in
+      ap (λ (m : ℕ). take m (p .rows)) (n ∙ sym last) ∙ f .made ∙ ap (λ (m : ℕ). map (shown s) (take m (k .keys))) last
+      ∙ ap (map (shown s)) (h .keys) in
       record {
         answer = a;
         few = omega (arith, h .few);
@@ -79,8 +90,10 @@ module _ (s : Scheduler) (k : Keys) (h : Sorted s k) where
       }
 
 -- the record that the code makes
-pub entry-is : (s : Scheduler) (n state share : ℕ) (lag : ℤ) → state ≡ threadState (s .running) n ((threadAt s n) .status) → share ≡ shareOf (s .meter) (threadAt s n)
-    → lag ≡ lagOf (s .meter) (threadAt s n) → _≡_ {A = Entry} (record { number = n; state = state; allotment = (threadAt s n) .allotment; share = share; lag = lag }) (entryOf s n)
+pub entry-is : (s : Scheduler) (n state share : ℕ) (lag : ℤ) → state ≡ threadState (s .running) n ((threadAt s n) .status)
+    → share ≡ shareOf (s .meter) (threadAt s n)
+    → lag ≡ lagOf (s .meter) (threadAt s n)
+    → _≡_ {A = Entry} (record { number = n; state = state; allotment = (threadAt s n) .allotment; share = share; lag = lag }) (entryOf s n)
 unfolding entryOf allotmentAt
 entry-is s n state share lag a b c = λ i. record { number = n; state = a i; allotment = (threadAt s n) .allotment; share = b i; lag = c i }
 
@@ -90,7 +103,8 @@ table-refused : (s : Scheduler) (ys : List Entry) (k : ℕ) → rosterRefusal s 
 unfolding tableOf
 table-refused s ys k e = rw (ne-eqb (rosterRefusal s (length ys)) 0 (λ z. omega (arith, e)))
 
-table-filled : (s : Scheduler) (ys : List Entry) → rosterRefusal s (length ys) ≡ 0 → tableOf s ys ≡ rosterOf s ++ drop (length (rosterOf s)) ys
+table-filled : (s : Scheduler) (ys : List Entry) → rosterRefusal s (length ys) ≡ 0
+    → tableOf s ys ≡ rosterOf s ++ drop (length (rosterOf s)) ys
 unfolding tableOf
 table-filled s ys e = rw (eq-eqb (rosterRefusal s (length ys)) 0 e)
 

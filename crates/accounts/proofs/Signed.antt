@@ -25,7 +25,9 @@ mag-sub : (a b k : ℕ) → a < k → b < k → mag (subℕ a b) < k
 mag-sub a b k ha hb = by (λ z. ltb a b ≡ z → mag (subℕ a b) < k) (ltb a b) (λ _ e. rw e (omega arith)) (λ _ e. rw e (omega arith)) refl
 
 pos-sub : (a b : ℕ) → pos a -ℤ pos b ≡ subℕ a b
-pos-sub a zero = by (λ z. ltb a zero ≡ z → pos (a + zero) ≡ subℕ a zero) (ltb a zero) (λ _ e. absurd (none a (ltb-true a zero e))) (λ _ e. rw e (ap pos (omega arith))) refl
+pos-sub a zero =
+    by (λ z. ltb a zero ≡ z → pos (a + zero) ≡ subℕ a zero) (ltb a zero) (λ _ e. absurd (none a (ltb-true a zero e)))
+    (λ _ e. rw e (ap pos (omega arith))) refl
   where
     none : (a : ℕ) → a < zero → ⊥
     none a h = omega arith
@@ -50,7 +52,8 @@ pub told : {z : Bool} (x y : ℤ) → SFits w64 x → SFits w64 y → ltZ (toZ w
 told x y hx hy e = (λ i. ltZ (sym (toZ-ofZ hx) i) (sym (toZ-ofZ hy) i)) ∙ e
 
 abs-sub : (a b k : ℕ) → a ≤ k → b ≤ k → natAbs (subℕ a b) ≤ k
-abs-sub a b k ha hb = by (λ z. ltb a b ≡ z → natAbs (subℕ a b) ≤ k) (ltb a b) (λ _ e. rw e (omega (arith, ltb-true a b e))) (λ _ e. rw e (omega arith)) refl
+abs-sub a b k ha hb =
+    by (λ z. ltb a b ≡ z → natAbs (subℕ a b) ≤ k) (ltb a b) (λ _ e. rw e (omega (arith, ltb-true a b e))) (λ _ e. rw e (omega arith)) refl
 
 mag-abs : (z : ℤ) → natAbs z ≤ 1000 * meterMost → mag z < 2 ^ 63
 mag-abs (pos n) h = omega arith
@@ -62,13 +65,16 @@ pub lag-blocked : (meter : ℕ) (t : Thread) → t .status ≡ 2 → lagOf meter
 unfolding lagOf
 lag-blocked meter t e = rw (eq-eqb (t .status) 2 e)
 
-pub lag-runnable : (meter : ℕ) (t : Thread) → (t .status ≡ 2 → ⊥) → lagOf meter t ≡ subℕ (t .reservation * (meter - t .anchor)) (1000 * t .since)
+pub lag-runnable : (meter : ℕ) (t : Thread) → (t .status ≡ 2 → ⊥)
+    → lagOf meter t ≡ subℕ (t .reservation * (meter - t .anchor)) (1000 * t .since)
 unfolding lagOf
 lag-runnable meter t e = rw (ne-eqb (t .status) 2 e)
 
 module _ (meter : ℕ) (t : Thread) (h : Bounded meter t) where
   due-most : t .reservation * (meter - t .anchor) ≤ 1000 * meterMost
-  due-most = let le : t .reservation * (meter - t .anchor) ≤ 1000 * (meter - t .anchor) = mul-le-mul-right (meter - t .anchor) (h .small) in omega arith
+  due-most =
+      let le : t .reservation * (meter - t .anchor) ≤ 1000 * (meter - t .anchor) = mul-le-mul-right (meter - t .anchor) (h .small) in
+      omega arith
 
   had-most : 1000 * t .since ≤ 1000 * meterMost
   had-most = omega arith
@@ -86,7 +92,8 @@ module _ (meter : ℕ) (t : Thread) (h : Bounded meter t) where
   pub lag-most : natAbs (lagOf meter t) ≤ 1000 * meterMost
   unfolding lagOf
   lag-most =
-      by (λ b. natAbs (cond b (pos 0) (subℕ (t .reservation * (meter - t .anchor)) (1000 * t .since))) ≤ 1000 * meterMost) (eqb (t .status) 2)
+      by (λ b. natAbs (cond b (pos 0) (subℕ (t .reservation * (meter - t .anchor)) (1000 * t .since))) ≤ 1000 * meterMost)
+      (eqb (t .status) 2)
       (λ _. omega arith)
       (λ _. abs-sub (t .reservation * (meter - t .anchor)) (1000 * t .since) (1000 * meterMost) due-most had-most)
 
@@ -102,4 +109,6 @@ module _ (meter : ℕ) (t : Thread) (h : Bounded meter t) where
 
   pub share-most : shareOf meter t ≤ 1000
   unfolding shareOf
-  share-most = by (λ b. cond b 0 (1000 * t .ticks / (meter - t .admission)) ≤ 1000) (eqb (meter - t .admission) 0) (λ _. omega arith) (λ _. quotient-most)
+  share-most =
+      by (λ b. cond b 0 (1000 * t .ticks / (meter - t .admission)) ≤ 1000) (eqb (meter - t .admission) 0) (λ _. omega arith)
+      (λ _. quotient-most)

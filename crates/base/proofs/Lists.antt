@@ -3,7 +3,7 @@
 use Prim.Native.Nat.{ℕ, zero, suc, _+_, _*_, _≤_, _<_}
 use mathlib.Core.Path.{_≡_, refl, sym, ap, subst, _∙_}
 use mathlib.Core.List.{List, [], _∷_, _++_}
-use mathlib.Core.Bool.{Bool, true, false, not, cond, _&&_, _||_}
+use mathlib.Core.Bool.{Bool, true, false, not, cond, _&&_, _||_, or-false, or-assoc}
 use native.Mathlib.Omega.{arith}
 use native.Mathlib.Nat.{le-refl, add-mul}
 use lib.ListN.{length, getD, take}
@@ -310,16 +310,8 @@ everyOf-snoc p n (j ∷ l) t u =
 
 pub member-snoc : (x n : ℕ) (l : List ℕ) → member x (l ++ n ∷ []) ≡ (member x l || eqb n x)
 unfolding member
-member-snoc x n [] = or-none (eqb n x)
-  where
-    or-none : (b : Bool) → (b || false) ≡ b
-    or-none true = refl
-    or-none false = refl
-member-snoc x n (j ∷ l) = ap (λ (z : Bool). eqb j x || z) (member-snoc x n l) ∙ or-assoc (eqb j x) (member x l) (eqb n x)
-  where
-    or-assoc : (a b c : Bool) → (a || (b || c)) ≡ (a || b || c)
-    or-assoc true b c = refl
-    or-assoc false b c = refl
+member-snoc x n [] = or-false (eqb n x)
+member-snoc x n (j ∷ l) = ap (λ (z : Bool). eqb j x || z) (member-snoc x n l) ∙ sym (or-assoc (eqb j x) (member x l) (eqb n x))
 
 pub member-left : (x n : ℕ) (l : List ℕ) → T (member x l) → T (member x (l ++ n ∷ []))
 member-left x n l t = rw (member-snoc x n l, is (member x l) t) tt

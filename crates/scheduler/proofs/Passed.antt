@@ -187,5 +187,6 @@ unfolding startRefusal
 start-passed m p e =
     let c = peel (not (within 1 1000 m) || not (within 1 sliceMost p) ⇒ 1) [] (lit< tt) e in (
       holds (within 1 1000 m) (not-false (within 1 1000 m) (or-false-l (not (within 1 1000 m)) (not (within 1 sliceMost p)) (c .0))),
-      holds (within 1 sliceMost p) (not-false (within 1 sliceMost p) (or-false-r (not (within 1 1000 m)) (not (within 1 sliceMost p)) (c .0))),
+      holds (within 1 sliceMost p) (not-false (within 1 sliceMost p)
+          (or-false-r (not (within 1 1000 m)) (not (within 1 sliceMost p)) (c .0))),
     )

@@ -33,9 +33,11 @@ childIn xs g c = ltb c 16 && isOpen (getD xs c noGroup) && ltb 0 c && eqb ((getD
 child-in : (xs : List Group) (g c : ℕ) → 0 < c → c < 16 → underOf (getD xs c noGroup) g ≡ childIn xs g c
 child-in xs g c l m =
     let x = getD xs c noGroup in
-    rw (lt-ltb c 16 m, lt-ltb 0 c l) (by (λ b. (b && eqb (x .parent) g) ≡ (b && true && eqb (x .parent) g)) (isOpen x) (λ _. refl) (λ _. refl))
+    rw (lt-ltb c 16 m, lt-ltb 0 c l) (by (λ b. (b && eqb (x .parent) g) ≡ (b && true && eqb (x .parent) g)) (isOpen x) (λ _. refl)
+    (λ _. refl))
 
-pub child-is : (xs : List Group) (s : Scheduler) → s .groups ≡ xs → (g c : ℕ) → 0 < c → c < 16 → underOf (getD xs c noGroup) g ≡ childOf s g c
+pub child-is : (xs : List Group) (s : Scheduler) → s .groups ≡ xs → (g c : ℕ) → 0 < c → c < 16
+    → underOf (getD xs c noGroup) g ≡ childOf s g c
 unfolding childOf openAt
 child-is xs s e g c l m = child-in xs g c l m ∙ ap (λ (z : List Group). childIn z g c) (sym e)
 
@@ -57,11 +59,14 @@ summed-none xs g = record {
   least = omega arith;
   most = omega arith;
   small = omega arith;
-  sums = by (λ b. 0 ≡ cond (b && false && eqb ((getD xs 0 noGroup) .parent) g) ((getD xs 0 noGroup) .ceiling) 0 + 0) (isOpen (getD xs 0 noGroup)) (λ _. refl) (λ _. refl);
+  sums =
+      by (λ b. 0 ≡ cond (b && false && eqb ((getD xs 0 noGroup) .parent) g) ((getD xs 0 noGroup) .ceiling) 0 + 0)
+      (isOpen (getD xs 0 noGroup)) (λ _. refl) (λ _. refl);
 }
 
 module _ (xs : List Group) (g i total : ℕ) (k : Summed xs g i total) where
-  pub summed-more : i < 16 → (v : ℕ) → v < 65536 → v ≡ cond (underOf (getD xs i noGroup) g) ((getD xs i noGroup) .ceiling) 0 → Summed xs g (i + 1) (total + v)
+  pub summed-more : i < 16 → (v : ℕ) → v < 65536 → v ≡ cond (underOf (getD xs i noGroup) g) ((getD xs i noGroup) .ceiling) 0
+      → Summed xs g (i + 1) (total + v)
   summed-more l v small e =
       let one = ap (λ (b : Bool). cond b ((getD xs i noGroup) .ceiling) 0) (child-in xs g i (k .least) l) in
       record {
@@ -88,11 +93,13 @@ pub open-near : (xs : List Group) (s : Scheduler) → s .groups ≡ xs → (g : 
 unfolding openAt
 open-near xs s e g h = rw (lt-ltb g 16 h) (ap (λ (z : List Group). isOpen (getD z g noGroup)) (sym e))
 
-pub load-is : (used : List ℕ) (s : Scheduler) → Sums s used → (g ceilings : ℕ) → g < 16 → ceilings ≡ ceilingsIn s g → getD used g 0 + ceilings ≡ load s g
+pub load-is : (used : List ℕ) (s : Scheduler) → Sums s used → (g ceilings : ℕ) → g < 16 → ceilings ≡ ceilingsIn s g
+    → getD used g 0 + ceilings ≡ load s g
 unfolding load
 load-is used s t g ceilings l e = rw (t g l, e)
 
-pub free-is : (xs : List Group) (s : Scheduler) → s .groups ≡ xs → (g used : ℕ) → used ≡ load s g → (getD xs g noGroup) .ceiling - used ≡ free s g
+pub free-is : (xs : List Group) (s : Scheduler) → s .groups ≡ xs → (g used : ℕ) → used ≡ load s g
+    → (getD xs g noGroup) .ceiling - used ≡ free s g
 unfolding free
 free-is xs s e g used l = ap (λ (z : List Group). (getD z g noGroup) .ceiling - used) (sym e) ∙ ap (λ (n : ℕ). (groupAt s g) .ceiling - n) l
 
@@ -138,8 +145,12 @@ positive s k g n t = (k .thread n (and-l (reservedAt s n) (eqb ((threadAt s n) .
 pub in-use : (s : Scheduler) → Facts s → (g : ℕ) → inUse s g ≡ not (eqb (load s g) 0)
 unfolding inUse load reservedIn ceilingsIn
 in-use s k g =
-    rw (none-zero (threadIn s g) (reservationAt s) 64 (λ n _ t. positive s k g n t), none-zero (childOf s g) (λ c. (groupAt s c) .ceiling) 16 child)
-    (either (sumBelow (λ n. cond (threadIn s g n) (reservationAt s n) 0) 64) (sumBelow (λ c. cond (childOf s g c) ((groupAt s c) .ceiling) 0) 16))
+    rw (
+      none-zero (threadIn s g) (reservationAt s) 64 (λ n _ t. positive s k g n t),
+      none-zero (childOf s g) (λ c. (groupAt s c) .ceiling) 16 child,
+    )
+    (either (sumBelow (λ n. cond (threadIn s g n) (reservationAt s n) 0) 64)
+    (sumBelow (λ c. cond (childOf s g c) ((groupAt s c) .ceiling) 0) 16))
   where
     child : (c : ℕ) → c < 16 → T (childOf s g c) → 1 ≤ (groupAt s c) .ceiling
     child c l t = (k .group c l ((child-of s g c t) .0)) .positive

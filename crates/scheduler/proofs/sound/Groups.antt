@@ -43,7 +43,9 @@ pub record Child (groups : List Group) (u g : ℕ) : Type 0 where
 module _ (s : Scheduler) (u g : ℕ) (h : g < 16) where
   is-open : (groupAt s g) .opened ≡ 1 → T (openAt s g)
   unfolding openAt
-  is-open o = both (ltb g 16) (eqb ((groupAt s g) .opened) 1) (lt→ltb g 16 h) (holds (eqb ((groupAt s g) .opened) 1) (eq-eqb ((groupAt s g) .opened) 1 o))
+  is-open o =
+      both (ltb g 16) (eqb ((groupAt s g) .opened) 1) (lt→ltb g 16 h)
+      (holds (eqb ((groupAt s g) .opened) 1) (eq-eqb ((groupAt s g) .opened) 1 o))
 
   child-passes : (groupAt s g) .opened ≡ 1 → Child (s .groups) u g → T (groupWith s u g)
   unfolding groupWith within openAt
@@ -125,10 +127,18 @@ module _ (s : Scheduler) (i : ℕ) (used : List ℕ) (t : GroupsTo s i used) (h 
       let p : ℕ = (groupAt s i) .parent in
       let c : ℕ = (groupAt s i) .ceiling in
       let after : List ℕ = set used p (getD used p 0 + c) in
-      let kept : (g : ℕ) → i - 1 < g → getD used g 0 ≡ getD after g 0 = λ g l. sym (getD-set-other used p g (getD used p 0 + c) 0 (λ z. omega (arith, k .below))) in
+      let kept : (g : ℕ) → i - 1 < g → getD used g 0 ≡ getD after g 0 =
+      λ g l. sym (getD-set-other used p g (getD used p 0 + c) 0 (λ z. omega (arith, k .below))) in
       record {
         sums = λ g l.
-            omega (arith, t .sums g l, sum-more (child s g) i, open-child o g, ap (sumBelow (child s g)) back, bump used p c g (omega (arith, k .below)));
+            omega (
+              arith,
+              t .sums g l,
+              sum-more (child s g) i,
+              open-child o g,
+              ap (sumBelow (child s g)) back,
+              bump used p c g (omega (arith, k .below)),
+            );
         fine = above (λ g. T (groupWith s (getD after g 0) g))
             (λ g l m. subst (λ (u : ℕ). T (groupWith s u g)) (kept g (omega arith)) (t .fine g l m))
             (subst (λ (u : ℕ). T (groupWith s u i)) (kept i (omega arith)) (child-passes s (getD used i 0) i h o k));
@@ -140,7 +150,8 @@ module _ (s : Scheduler) (i : ℕ) (h : i < 16) where
   unfolding groupsOk
   groups-fail f =
       same false (groupsOk s) (λ z. absurd z)
-      (λ z. absurd (f (everyBelow-at (groupOk s) 16 (and-r (openAt s 0 && eqb ((groupAt s 0) .ceiling) 1000) (everyBelow (groupOk s) 16) z) i h)))
+      (λ z. absurd (f (everyBelow-at (groupOk s) 16 (and-r (openAt s 0 && eqb ((groupAt s 0) .ceiling) 1000) (everyBelow (groupOk s) 16) z)
+      i h)))
 
   pub opened-most : T (groupOk s i) → (groupAt s i) .opened ≤ 1
   unfolding groupOk
@@ -155,7 +166,8 @@ module _ (s : Scheduler) (used : List ℕ) (t : GroupsTo s 0 used) where
   whole : (g : ℕ) → g < 16 → getD used g 0 ≡ load s g
   unfolding child childOf sumBelow
   whole g l =
-      let none : child s g 0 ≡ 0 = by (λ b. cond (b && ltb 0 0 && eqb ((groupAt s 0) .parent) g) ((groupAt s 0) .ceiling) 0 ≡ 0) (openAt s 0) (λ _. refl) (λ _. refl) in
+      let none : child s g 0 ≡ 0 =
+      by (λ b. cond (b && ltb 0 0 && eqb ((groupAt s 0) .parent) g) ((groupAt s 0) .ceiling) 0 ≡ 0) (openAt s 0) (λ _. refl) (λ _. refl) in
       omega (arith, t .sums g l, sum-more (child s g) 0)
 
   root-passes : (groupAt s 0) .opened ≡ 1 → (groupAt s 0) .ceiling ≡ 1000 → load s 0 ≤ 1000 → T (groupOk s 0)
@@ -168,7 +180,8 @@ module _ (s : Scheduler) (used : List ℕ) (t : GroupsTo s 0 used) where
       let rest : Bool = within 1 1000 ((groupAt s 0) .ceiling) && true in
       let room : Bool = leb (load s 0) ((groupAt s 0) .ceiling) in
       leb→le (load s 0) ((groupAt s 0) .ceiling)
-      (and-r rest room (implied (openAt s 0) (rest && room) (and-r (leb ((groupAt s 0) .opened) 1) (not (openAt s 0) || (rest && room)) z) o))
+      (and-r rest room (implied (openAt s 0) (rest && room) (and-r (leb ((groupAt s 0) .opened) 1) (not (openAt s 0) || (rest && room)) z)
+      o))
 
   pub groups-end : (eqb ((groupAt s 0) .opened) 1 && eqb ((groupAt s 0) .ceiling) 1000 && leb (getD used 0 0) 1000) ≡ groupsOk s
   unfolding groupsOk groupOk groupWith openAt within
@@ -285,15 +298,19 @@ module _ {groups : List Group} {reserved : List ℕ} {i : ℕ} {used : List ℕ}
     pub sum-fits : Fits w32 (getD used ((getD groups i noGroup) .parent) 0 + (getD groups i noGroup) .ceiling)
     sum-fits = omega (arith, k .sized .small ((getD groups i noGroup) .parent) (omega (arith, low)), facts .1 .high)
 
-    pub inv-add : GroupsInv groups reserved (i - 1) (set used ((getD groups i noGroup) .parent) (getD used ((getD groups i noGroup) .parent) 0 + (getD groups i noGroup) .ceiling))
+    pub inv-add : GroupsInv groups reserved (i - 1) (set used ((getD groups i noGroup) .parent)
+        (getD used ((getD groups i noGroup) .parent) 0 + (getD groups i noGroup) .ceiling))
     inv-add = record {
       most = omega (arith, k .most);
-      sized = sized-add (79000 - 1000 * i) (79000 - 1000 * (i - 1)) used (k .sized) ((getD groups i noGroup) .parent) ((getD groups i noGroup) .ceiling) (omega (arith, low)) (omega (arith, k .most, facts .1 .high));
+      sized =
+          sized-add (79000 - 1000 * i) (79000 - 1000 * (i - 1)) used (k .sized) ((getD groups i noGroup) .parent)
+          ((getD groups i noGroup) .ceiling) (omega (arith, low)) (omega (arith, k .most, facts .1 .high));
       to = λ s q. groups-add (having s groups) i used (k .to s q) low pos (k .sized .size) (facts .0) (facts .1);
     }
 
 pub inv-end : {groups : List Group} {reserved : List ℕ} {i : ℕ} {used : List ℕ} → GroupsInv groups reserved i used → i ≤ 0
-    → Answers groups reserved (eqb ((getD groups 0 noGroup) .opened) 1 && eqb ((getD groups 0 noGroup) .ceiling) 1000 && leb (getD used 0 0) 1000)
+    → Answers groups reserved (eqb ((getD groups 0 noGroup) .opened) 1 && eqb ((getD groups 0 noGroup) .ceiling) 1000
+    && leb (getD used 0 0) 1000)
 inv-end {groups} {reserved} {i} {used} k h s q =
     let e : i ≡ 0 = omega arith in
     groups-end (having s groups) used (subst (λ (j : ℕ). GroupsTo (having s groups) j used) e (k .to s q))

@@ -3,7 +3,7 @@
 use Prim.Native.Nat.{ℕ, _+_, _*_, _≤_, _<_}
 use mathlib.Core.Path.{_≡_, refl, sym, subst, _∙_}
 use mathlib.Core.List.{List}
-use mathlib.Core.Bool.{Bool, true, false, cond, _&&_, _||_}
+use mathlib.Core.Bool.{Bool, true, false, cond, _&&_, _||_, and-false}
 use native.Mathlib.Omega.{arith}
 use lib.ListN.{length, getD, set, replicate, length-set, getD-replicate}
 use lib.Seq.{getD-set-same, getD-set-other}
@@ -25,24 +25,16 @@ pub fails : (a b : Bool) → (T a → T b) → b ≡ false → false ≡ a
 fails true b f e = absurd (subst T e (f tt))
 fails false b f e = refl
 
-pub or-none : (b : Bool) → (b || false) ≡ b
-or-none true = refl
-or-none false = refl
-
-pub and-none : (b : Bool) → (b && false) ≡ false
-and-none true = refl
-and-none false = refl
-
 -- A reservation f and its allotment a. No allotment of at least 1 fits a reservation of 0, so that one is not tested for.
 
 module _ (f a m : ℕ) where
   pub quota-over : 1000 < f → false ≡ (within 1 1000 f && within 1 (f * m) a)
   unfolding within
-  quota-over h = sym (rw (lt-leb f 1000 h, and-none (leb 1 f)))
+  quota-over h = sym (rw (lt-leb f 1000 h, and-false (leb 1 f)))
 
   pub quota-none : a < 1 → false ≡ (within 1 1000 f && within 1 (f * m) a)
   unfolding within
-  quota-none h = sym (rw (lt-leb 1 a h, and-none (leb 1 f && leb f 1000)))
+  quota-none h = sym (rw (lt-leb 1 a h, and-false (leb 1 f && leb f 1000)))
 
   pub quota-fits : f ≤ 1000 → 1 ≤ a → leb a (f * m) ≡ (within 1 1000 f && within 1 (f * m) a)
   unfolding within
@@ -85,7 +77,8 @@ sized-none = record { size = refl; small = λ g l. omega (arith, getD-replicate 
 pub sized-more : (top more : ℕ) (used : List ℕ) → Sized top used → top ≤ more → Sized more used
 sized-more top more used t h = record { size = t .size; small = λ g l. omega (arith, t .small g l) }
 
-pub sized-add : (top more : ℕ) (used : List ℕ) → Sized top used → (p v : ℕ) → p < 16 → top + v ≤ more → Sized more (set used p (getD used p 0 + v))
+pub sized-add : (top more : ℕ) (used : List ℕ) → Sized top used → (p v : ℕ) → p < 16 → top + v ≤ more
+    → Sized more (set used p (getD used p 0 + v))
 sized-add top more used t p v l h = record {
   size = length-set used p (getD used p 0 + v) ∙ t .size;
   small = λ g m. omega (arith, t .small g m, bump used p v g (omega (arith, t .size)), cond-le (eqb p g) v);

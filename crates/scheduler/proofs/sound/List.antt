@@ -3,7 +3,7 @@
 use Prim.Native.Nat.{ℕ, suc, _+_, _≤_, _<_}
 use mathlib.Core.Path.{_≡_, refl, sym, ap, subst, _∙_}
 use mathlib.Core.List.{List, [], _∷_, _++_}
-use mathlib.Core.Bool.{Bool, true, false, not, _&&_, _||_, false≢true}
+use mathlib.Core.Bool.{Bool, true, false, not, _&&_, _||_, false≢true, or-false}
 use native.Mathlib.Numerals.{add-one}
 use native.Mathlib.Omega.{arith}
 use lib.ListN.{length, getD, set, take, drop, replicate, length-set, getD-replicate}
@@ -14,7 +14,7 @@ use Rattle.base.specs.Lists.{member, distinct, everyOf}
 use Rattle.base.proofs.Bools.{by, cases, and-l, and-r, is, or-true, or-right}
 use Rattle.base.proofs.Lists.{everyOf-snoc, distinct-snoc, member-snoc}
 use Rattle.scheduler.specs.Inner.{Marks, ListSeen}
-use Rattle.scheduler.proofs.sound.Laws.{fails, or-none}
+use Rattle.scheduler.proofs.sound.Laws.{fails}
 
 -- What a list's test says of an entry and of those before it.
 
@@ -60,7 +60,8 @@ list-none order count = record {
   marks = λ n h. getD-replicate {A = Bool} 64 n false false h;
 }
 
-module _ (order : List ℕ) (count i : ℕ) (seen : List Bool) (t : ListTo order count i seen) (more : i < count) (long : count ≤ length order) where
+module _ (order : List ℕ) (count i : ℕ) (seen : List Bool) (t : ListTo order count i seen) (more : i < count)
+    (long : count ≤ length order) where
   -- the whole list: the entries so far, the next one, and the others
   whole : take count order ≡ take i order ++ getD order i 0 ∷ drop (suc i) (take count order)
   whole =
@@ -88,28 +89,38 @@ module _ (order : List ℕ) (count i : ℕ) (seen : List Bool) (t : ListTo order
     marks = λ z. absurd (false≢true z);
   }
 
-  pub list-add : getD order i 0 < 64 → getD seen (getD order i 0) false ≡ false → ListTo order count (i + 1) (set seen (getD order i 0) true)
+  pub list-add : getD order i 0 < 64 → getD seen (getD order i 0) false ≡ false
+      → ListTo order count (i + 1) (set seen (getD order i 0) true)
   list-add h e = record {
     most = omega arith;
     size = length-set seen (getD order i 0) true ∙ t .size;
-    low = subst (λ (l : List ℕ). T (everyOf low l)) (sym next) (everyOf-snoc low (getD order i 0) (take i order) (t .low) (lt→ltb (getD order i 0) 64 h));
+    low =
+        subst (λ (l : List ℕ). T (everyOf low l)) (sym next)
+        (everyOf-snoc low (getD order i 0) (take i order) (t .low) (lt→ltb (getD order i 0) 64 h));
     once = subst (λ (l : List ℕ). T (distinct l)) (sym next)
-        (distinct-snoc (getD order i 0) (take i order) (t .once) (subst (λ (b : Bool). T (not b)) (sym e ∙ t .marks (getD order i 0) h) tt));
+        (distinct-snoc (getD order i 0) (take i order) (t .once) (subst (λ (b : Bool). T (not b)) (sym e
+        ∙ t .marks (getD order i 0) h) tt));
     marks = λ n l. rw (next, member-snoc n (getD order i 0) (take i order)) (mark n l);
   }
     where
       mark : (n : ℕ) → n < 64 → getD (set seen (getD order i 0) true) n false ≡ (member n (take i order) || eqb (getD order i 0) n)
       mark n l = cases (eqb (getD order i 0) n)
           (λ q.
-          subst (λ (k : ℕ). getD (set seen (getD order i 0) true) k false ≡ (member k (take i order) || eqb (getD order i 0) k)) (eqb-true (getD order i 0) n q)
+          subst (λ (k : ℕ). getD (set seen (getD order i 0) true) k false ≡ (member k (take i order) || eqb (getD order i 0) k))
+          (eqb-true (getD order i 0) n q)
           (getD-set-same seen (getD order i 0) true false (omega (arith, t .size))
-          ∙ sym (rw (eq-eqb (getD order i 0) (getD order i 0) refl) (is (member (getD order i 0) (take i order) || true) (or-true (member (getD order i 0) (take i order)))))))
+          ∙ sym (rw (eq-eqb (getD order i 0) (getD order i 0) refl)
+          (is (member (getD order i 0) (take i order) || true) (or-true (member (getD order i 0) (take i order)))))))
           (λ q.
           getD-set-other seen (getD order i 0) n true false (λ z. eqb-false (getD order i 0) n q (sym z))
-          ∙ t .marks n l ∙ sym (rw q (or-none (member n (take i order)))))
+          ∙ t .marks n l ∙ sym (rw q (or-false (member n (take i order)))))
 
-pub list-end : (order : List ℕ) (count i : ℕ) (seen : List Bool) → ListTo order count i seen → count ≤ i → ListSeen (take count order) true seen
+pub list-end : (order : List ℕ) (count i : ℕ) (seen : List Bool) → ListTo order count i seen → count ≤ i
+    → ListSeen (take count order) true seen
 list-end order count i seen t h =
     let q : i ≡ count = omega arith in
     let t′ = subst (λ (j : ℕ). ListTo order count j seen) q t in
-    record { test = sym (rw (is (everyOf low (take count order)) (t′ .low), is (distinct (take count order)) (t′ .once))); marks = λ z. t′ .marks }
+    record {
+      test = sym (rw (is (everyOf low (take count order)) (t′ .low), is (distinct (take count order)) (t′ .once)));
+      marks = λ z. t′ .marks;
+    }

@@ -18,7 +18,8 @@ use Rattle.base.proofs.Sums.{everyBelow-at, everyBelow-of, sum-more}
 use Rattle.scheduler.specs.declared.Thread.{Thread}
 use Rattle.scheduler.specs.declared.Group.{Group}
 use Rattle.scheduler.specs.declared.Scheduler.{Scheduler}
-use Rattle.scheduler.specs.State.{noThread, noGroup, threadAt, groupAt, admittedAt, reservedAt, runnableAt, reservationAt, openAt, listed}
+use Rattle.scheduler.specs.State.{noThread, noGroup, threadAt, groupAt, admittedAt, reservedAt, runnableAt, reservationAt, openAt}
+use Rattle.scheduler.specs.State.{listed}
 use Rattle.scheduler.specs.Sound.{quotaOk, accountOk, threadIn, reservedIn, threadOk}
 use Rattle.scheduler.specs.Inner.{given, boundsOk, Marks, Small, entryOk, ThreadsPass}
 use Rattle.scheduler.proofs.sound.Laws.{same, bump, Sized, sized-none, sized-more, sized-add}
@@ -165,16 +166,20 @@ module _ (s : Scheduler) (i : ℕ) (used : List ℕ) (t : ThreadsTo s i used) wh
   }
 
 -- a thread that does not pass
-pub threads-fail : (s : Scheduler) (i : ℕ) → i < 64 → (T (entryOk s i) → ⊥) → (ok : Bool) (used : List ℕ) → ok ≡ false → ThreadsPass s ok used
+pub threads-fail : (s : Scheduler) (i : ℕ) → i < 64 → (T (entryOk s i) → ⊥) → (ok : Bool) (used : List ℕ) → ok ≡ false
+    → ThreadsPass s ok used
 threads-fail s i h f ok used e =
     let runs : Bool = eqb (s .running) 64 || runnableAt s (s .running) in
     record {
-      test = e ∙ same false (everyBelow (entryOk s) 64 && runs) (λ z. absurd z) (λ z. absurd (f (everyBelow-at (entryOk s) 64 (and-l (everyBelow (entryOk s) 64) runs z) i h)));
+      test =
+          e ∙ same false (everyBelow (entryOk s) 64 && runs) (λ z. absurd z)
+          (λ z. absurd (f (everyBelow-at (entryOk s) 64 (and-l (everyBelow (entryOk s) 64) runs z) i h)));
       sums = λ z. absurd (false≢true (sym e ∙ z));
       small = λ z. absurd (false≢true (sym e ∙ z));
     }
 
-pub threads-end : (s : Scheduler) (used : List ℕ) → ThreadsTo s 64 used → Small used → (ok : Bool) → ok ≡ (eqb (s .running) 64 || runnableAt s (s .running)) → ThreadsPass s ok used
+pub threads-end : (s : Scheduler) (used : List ℕ) → ThreadsTo s 64 used → Small used → (ok : Bool)
+    → ok ≡ (eqb (s .running) 64 || runnableAt s (s .running)) → ThreadsPass s ok used
 unfolding reservedIn part
 threads-end s used t small ok e = record {
   test = e ∙ sym (rw (is (everyBelow (entryOk s) 64) (everyBelow-of (entryOk s) 64 (t .passed))));
@@ -183,7 +188,8 @@ threads-end s used t small ok e = record {
 }
 
 -- The loop's invariant: the sums are bounded, and `ThreadsTo` holds of each state with these parts whose list `seen` marks.
-pub record ThreadsInv (threads : List Thread) (groups : List Group) (seen : List Bool) (m meter running i : ℕ) (used : List ℕ) : Type 0 where
+pub record ThreadsInv (threads : List Thread) (groups : List Group) (seen : List Bool) (m meter running i : ℕ)
+    (used : List ℕ) : Type 0 where
   pub most : i ≤ 64
   pub sized : Sized (1000 * i) used
   pub to : (s : Scheduler) → Marks seen (listed s) → ThreadsTo (given s threads groups m meter running) i used
@@ -203,7 +209,8 @@ inv-none {threads} {groups} {seen} {m} {meter} {running} = record {
 
 module _ {threads : List Thread} {groups : List Group} {seen : List Bool} {m meter running i : ℕ} {used : List ℕ}
     (k : ThreadsInv threads groups seen m meter running i used) (more : i < 64) where
-  pub inv-skip : (getD threads i noThread) .status ≡ 0 → getD seen i false ≡ false → ThreadsInv threads groups seen m meter running (i + 1) used
+  pub inv-skip : (getD threads i noThread) .status ≡ 0 → getD seen i false ≡ false
+      → ThreadsInv threads groups seen m meter running (i + 1) used
   unfolding listed
   inv-skip o e = record {
     most = omega arith;
@@ -216,20 +223,25 @@ module _ {threads : List Thread} {groups : List Group} {seen : List Bool} {m met
       → Answers threads groups seen m meter running ok after
   unfolding listed
   inv-free o e {ok} {after} f s q =
-      threads-fail (given s threads groups m meter running) i more (free-listed (given s threads groups m meter running) i o (sym (q i more) ∙ e)) ok after f
+      threads-fail (given s threads groups m meter running) i more (free-listed (given s threads groups m meter running) i o (sym (q i more)
+      ∙ e)) ok after f
 
   module _ (admitted : (getD threads i noThread) .status ≡ 0 → ⊥) where
     -- an admitted thread that does not pass
-    fail : ((s : Scheduler) → Marks seen (listed s) → Entry (given s threads groups m meter running) i → ⊥) → {ok : Bool} {after : List ℕ} → ok ≡ false
+    fail : ((s : Scheduler) → Marks seen (listed s) → Entry (given s threads groups m meter running) i → ⊥) → {ok : Bool} {after : List ℕ}
+        → ok ≡ false
         → Answers threads groups seen m meter running ok after
     fail g {ok} {after} f s q =
-        threads-fail (given s threads groups m meter running) i more (λ z. g s q (entry-facts (given s threads groups m meter running) i admitted z)) ok after f
+        threads-fail (given s threads groups m meter running) i more
+        (λ z. g s q (entry-facts (given s threads groups m meter running) i admitted z)) ok after f
 
-    pub inv-place : getD seen i false ≡ false → {ok : Bool} {after : List ℕ} → ok ≡ false → Answers threads groups seen m meter running ok after
+    pub inv-place : getD seen i false ≡ false → {ok : Bool} {after : List ℕ} → ok ≡ false
+        → Answers threads groups seen m meter running ok after
     unfolding listed
     inv-place e = fail (λ s q z. clash (getD seen i false) (q i more ∙ z .placed) e)
 
-    pub inv-status : 2 < (getD threads i noThread) .status → {ok : Bool} {after : List ℕ} → ok ≡ false → Answers threads groups seen m meter running ok after
+    pub inv-status : 2 < (getD threads i noThread) .status → {ok : Bool} {after : List ℕ} → ok ≡ false
+        → Answers threads groups seen m meter running ok after
     inv-status h = fail (λ s q z. absurd (omega (arith, z .valid)))
 
     pub inv-bounds : {b : Bool} → b ≡ boundsOk m meter (getD threads i noThread) → not b ≡ true → {ok : Bool} {after : List ℕ} → ok ≡ false
@@ -267,10 +279,13 @@ module _ {threads : List Thread} {groups : List Group} {seen : List Bool} {m met
       sum-fits = omega (arith, k .sized .small ((getD threads i noThread) .group) (numbers .low), least)
 
       pub inv-add : ThreadsInv threads groups seen m meter running (i + 1)
-          (set used ((getD threads i noThread) .group) (getD used ((getD threads i noThread) .group) 0 + (getD threads i noThread) .reservation))
+          (set used ((getD threads i noThread) .group) (getD used ((getD threads i noThread) .group) 0
+          + (getD threads i noThread) .reservation))
       inv-add = record {
         most = omega arith;
-        sized = sized-add (1000 * i) (1000 * (i + 1)) used (k .sized) ((getD threads i noThread) .group) ((getD threads i noThread) .reservation) (numbers .low) (omega (arith, least));
+        sized =
+            sized-add (1000 * i) (1000 * (i + 1)) used (k .sized) ((getD threads i noThread) .group)
+            ((getD threads i noThread) .reservation) (numbers .low) (omega (arith, least));
         to = λ s q. threads-add (given s threads groups m meter running) i used (k .to s q) (k .sized .size) admitted (entry s q);
       }
 
@@ -281,12 +296,14 @@ module _ {threads : List Thread} {groups : List Group} {seen : List Bool} {m met
       → Answers threads groups seen m meter running ok used
   ended ok e s q =
       let z : i ≡ 64 = omega (arith, k .most) in
-      threads-end (given s threads groups m meter running) used (subst (λ (j : ℕ). ThreadsTo (given s threads groups m meter running) j used) z (k .to s q))
+      threads-end (given s threads groups m meter running) used
+      (subst (λ (j : ℕ). ThreadsTo (given s threads groups m meter running) j used) z (k .to s q))
       (λ g l. omega (arith, k .sized .small g l)) ok (e s)
 
   -- a result that is equal
   module _ {ok : Bool} {after : List ℕ} where
-    equal : (b : Bool) → (ok ≡ b) × (after ≡ used) → Answers threads groups seen m meter running b used → Answers threads groups seen m meter running ok after
+    equal : (b : Bool) → (ok ≡ b) × (after ≡ used) → Answers threads groups seen m meter running b used
+        → Answers threads groups seen m meter running ok after
     equal b e a =
         subst (λ (o : Bool). Answers threads groups seen m meter running o after) (sym (e .0))
         (subst (λ (u : List ℕ). Answers threads groups seen m meter running b u) (sym (e .1)) a)
@@ -294,6 +311,9 @@ module _ {threads : List Thread} {groups : List Group} {seen : List Bool} {m met
     pub inv-idle : running ≡ 64 → (ok ≡ true) × (after ≡ used) → Answers threads groups seen m meter running ok after
     inv-idle e q = equal true q (ended true (λ s. sym (rw (eq-eqb running 64 e))))
 
-    pub inv-run : (running ≡ 64 → ⊥) → (ok ≡ eqb ((getD threads running noThread) .status) 1) × (after ≡ used) → Answers threads groups seen m meter running ok after
+    pub inv-run : (running ≡ 64 → ⊥) → (ok ≡ eqb ((getD threads running noThread) .status) 1) × (after ≡ used)
+        → Answers threads groups seen m meter running ok after
     unfolding runnableAt
-    inv-run n q = equal (eqb ((getD threads running noThread) .status) 1) q (ended (eqb ((getD threads running noThread) .status) 1) (λ s. sym (rw (ne-eqb running 64 n))))
+    inv-run n q =
+        equal (eqb ((getD threads running noThread) .status) 1) q
+        (ended (eqb ((getD threads running noThread) .status) 1) (λ s. sym (rw (ne-eqb running 64 n))))

@@ -193,8 +193,13 @@ module _ (s : Scheduler) where
         holds (settingsOk (s .settings)) (k .settings),
         holds (groupsOk s) (k .groups),
         threads-of each,
-        both (few && held) once (both few held (le→leb (s .count) 64 (k .few)) (held-of each (and-l low once entry))) (and-r low once entry),
-        running-of (record { number = and-r most number limits; early = and-r (most && number) early meter; runnable = and-r entries runs pass }),
+        both (few && held) once (both few held (le→leb (s .count) 64 (k .few)) (held-of each (and-l low once entry)))
+            (and-r low once entry),
+        running-of (record {
+          number = and-r most number limits;
+          early = and-r (most && number) early meter;
+          runnable = and-r entries runs pass;
+        }),
       ))
       (and-l most number limits)
 
@@ -203,7 +208,8 @@ module _ (s : Scheduler) where
 
   pub whole : T (shapeOk s) → (b : Bool) → b ≡ groupsOk s → (groupsOk s ≡ true → Parts) → b ≡ sound s
   whole h b e f =
-      same b (sound s) (λ z. sound-of h (f (is (groupsOk s) (subst T e z)))) (λ z. subst T (sym e) (holds (groupsOk s) (parts-of z .groups)))
+      same b (sound s) (λ z. sound-of h (f (is (groupsOk s) (subst T e z))))
+      (λ z. subst T (sym e) (holds (groupsOk s) (parts-of z .groups)))
 
 -- What the settings' and the meter's tests say of m and the running thread.
 
@@ -211,7 +217,8 @@ pub settings-most : (k : Settings) → settingsOk k ≡ true → k .thousandth �
 unfolding settingsOk within
 settings-most k e =
     let m : Bool = within 1 1000 (k .thousandth) in
-    leb→le (k .thousandth) 1000 (and-r (leb 1 (k .thousandth)) (leb (k .thousandth) 1000) (and-l m (within 1 sliceMost (k .interval)) (holds (settingsOk k) e)))
+    leb→le (k .thousandth) 1000 (and-r (leb 1 (k .thousandth)) (leb (k .thousandth) 1000)
+    (and-l m (within 1 sliceMost (k .interval)) (holds (settingsOk k) e)))
 
 pub running-most : (s : Scheduler)
     → (leb (s .meter) meterMost && leb (s .running) 64 && (eqb (s .running) 64 || ltb (s .meter) meterLimit)) ≡ true → s .running ≤ 64
@@ -228,4 +235,8 @@ shaped s vs g =
     let threads : length (s .threads) ≡ 64 = simp length-map at (g .1 .1 .0 .1 .0 .1) in
     let order : length (s .order) ≡ 64 = simp length-map at (g .1 .1 .1 .0 .1 .0 .1) in
     let groups : length (s .groups) ≡ 16 = simp length-map at (g .1 .1 .1 .1 .0 .1 .0 .1) in
-    holds (shapeOk s) (rw (eq-eqb (length (s .threads)) 64 threads, eq-eqb (length (s .groups)) 16 groups, eq-eqb (length (s .order)) 64 order))
+    holds (shapeOk s) (rw (
+      eq-eqb (length (s .threads)) 64 threads,
+      eq-eqb (length (s .groups)) 16 groups,
+      eq-eqb (length (s .order)) 64 order,
+    ))

@@ -23,12 +23,15 @@ enum-known-k c = search needs
 returns : tie.Need-returns
 unfolding lagOut
 returns c =
+    let l = c .before .before .before .lag in
     ap told (toZ-ofZ (sfits-of (c .known-told .given .0 .1)))
-    ∙ ap lagOut (sym (c .before .v .given .1) ∙ c .before .before .before .lag .ensures)
+    ∙ ap lagOut (sym (c .before .v .given .1) ∙ l .ensures)
 
 returns-2 : tie.Need-returns-2
 unfolding lagOut
-returns-2 c = ap lagOut (sym (c .before .k .given .1) ∙ c .before .before .before .lag .ensures)
+returns-2 c =
+    let l = c .before .before .before .lag in
+    ap lagOut (sym (c .before .k .given .1) ∙ l .ensures)
 
 pub mtr-by-value-lag-spec : {M : Type 1} → statement M
 mtr-by-value-lag-spec = tie.close (tie.spec lag-requires enum-known-v enum-known-k returns returns-2)

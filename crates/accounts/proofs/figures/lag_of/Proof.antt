@@ -24,7 +24,9 @@ mul-had : tie.Need-mul-had
 mul-had c = search needs
 
 cast-result : tie.Need-cast-result
-cast-result c = record { sfits = due-small _ _ (c .before .before .before .before .before .pre) }
+cast-result c =
+    let s = c .before .before .before .before .before in
+    record { sfits = due-small _ _ (s .pre) }
 
 cast-result-2 : tie.Need-cast-result-2
 cast-result-2 c = search needs
@@ -33,7 +35,9 @@ sub-result : tie.Need-sub-result
 sub-result c = diff-fits _ _ (cast-result c .sfits) (cast-result-2 c .sfits)
 
 returns-2 : tie.Need-returns-2
-returns-2 c = diff-bits _ _ (cast-result c .sfits) (cast-result-2 c .sfits) ∙ sym (lag-runnable _ _ (c .before .before .before .if1 .left))
+returns-2 c =
+    let i1 = c .before .before .before .if1 in
+    diff-bits _ _ (cast-result c .sfits) (cast-result-2 c .sfits) ∙ sym (lag-runnable _ _ (i1 .left))
 
 pub lag-of-spec : {M : Type 1} → statement M
 lag-of-spec =

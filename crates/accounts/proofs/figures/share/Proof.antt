@@ -24,7 +24,9 @@ enum-known-t : tie.Need-enum-known-t
 enum-known-t c = search needs
 
 share-of-requires : tie.Need-share-of-requires
-share-of-requires c κs = found-bounded _ _ _ (sym (c .before .before .before .find .ensures) ∙ c .before .t .given .1)
+share-of-requires c κs =
+    let f = c .before .before .before .find in
+    found-bounded _ _ _ (sym (f .ensures) ∙ c .before .t .given .1)
 
 enum-known-k : tie.Need-enum-known-k
 enum-known-k c = search needs

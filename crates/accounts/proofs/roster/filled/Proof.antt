@@ -15,6 +15,13 @@ Inv-loop s k meter running count rows₀ i₀ rows i = Filling s k rows i
 abbrev μ-loop : tie.MeasureT-loop
 μ-loop s k meter running count rows₀ i₀ rows i = count - i
 
+-- the places that the needs look back to
+abbrev start : tie.After-x Inv-loop μ-loop → tie.Start Inv-loop μ-loop
+start p = p .before .before .before
+
+abbrev in-loop : tie.After-state-of Inv-loop μ-loop → tie.In-loop Inv-loop μ-loop
+in-loop p = p .before .before .before
+
 loop-holds : tie.Need-loop-holds Inv-loop μ-loop
 loop-holds c = none-filled _ _ (c .pre)
 
@@ -25,19 +32,38 @@ element-copy-out-x : tie.Need-element-copy-out-x Inv-loop μ-loop
 element-copy-out-x c = search needs
 
 cast-t : tie.Need-cast-t Inv-loop μ-loop
-cast-t c = record { fits = omega (arith, (key-at (c .before .before .before .args .t1) (c .before .before .before .args .t2) (c .before .before .before .pre) (c .before .before .loop .i) (c .before .loop-test .taken) .low)) }
+cast-t c =
+    let s = start c in
+    record {
+      fits = omega (
+        arith,
+        (key-at (s .args .t1) (s .args .t2) (s .pre) (c .before .before .loop .i) (c .before .loop-test .taken) .low),
+      );
+    }
 
 mul-t : tie.Need-mul-t Inv-loop μ-loop
-mul-t c = record { fits = omega (arith, (key-at (c .before .before .before .args .t1) (c .before .before .before .args .t2) (c .before .before .before .pre) (c .before .before .loop .i) (c .before .loop-test .taken) .low)) }
+mul-t c =
+    let s = start c in
+    record {
+      fits = omega (
+        arith,
+        (key-at (s .args .t1) (s .args .t2) (s .pre) (c .before .before .loop .i) (c .before .loop-test .taken) .low),
+      );
+    }
 
 element-copy-out-t : tie.Need-element-copy-out-t Inv-loop μ-loop
-element-copy-out-t c = key-at _ _ (c .before .before .before .pre) _ (c .before .loop-test .taken) .low
+element-copy-out-t c =
+    let s = start c in
+    key-at _ _ (s .pre) _ (c .before .loop-test .taken) .low
 
 state-of-requires : tie.Need-state-of-requires Inv-loop μ-loop
 state-of-requires c κs = search needs
 
 share-of-requires : tie.Need-share-of-requires Inv-loop μ-loop
-share-of-requires c κs = key-bounded _ _ (c .before .before .before .before .before .pre) _ (c .before .before .before .loop-test .taken)
+share-of-requires c κs =
+    let l = in-loop c in
+    let s = l .before .before in
+    key-bounded _ _ (s .pre) _ (l .loop-test .taken)
 
 mul-rows : tie.Need-mul-rows Inv-loop μ-loop
 mul-rows c = search needs
@@ -53,9 +79,12 @@ loop-less c = search needs
 
 loop-again : tie.Need-loop-again Inv-loop μ-loop
 loop-again c =
-    fills _ _ (c .before .before .before .before .before .before .before .pre) _ _ (c .before .before .before .before .before .before .loop .inv) (c .before .before .before .before .before .loop-test .taken) _
+    let l = in-loop (c .before .before) in
+    let l2 = l .before in
+    let s = l2 .before in
+    fills _ _ (s .pre) _ _ (l2 .loop .inv) (l .loop-test .taken) _
     (entry-is _ _ _ _ _ (c .before .before .state-of .ensures) (c .before .share-of .ensures)
-    (lag-bits _ _ (key-bounded _ _ (c .before .before .before .before .before .before .before .pre) _ (c .before .before .before .before .before .loop-test .taken)) _ (key-lag _ _ _ (key-at _ _ (c .before .before .before .before .before .before .before .pre) _ (c .before .before .before .before .before .loop-test .taken)))))
+    (lag-bits _ _ (key-bounded _ _ (s .pre) _ (l .loop-test .taken)) _ (key-lag _ _ _ (key-at _ _ (s .pre) _ (l .loop-test .taken)))))
 
 returns : tie.Need-returns Inv-loop μ-loop
 returns c = all-filled _ _ (c .before .before .pre) _ refl refl _ (c .loop-test .left) (c .before .loop .inv)

@@ -18,6 +18,23 @@ use Rattle.scheduler.proofs.Scheduler.tested.Tie as tie
 fails : (s : Scheduler) (ok : Bool) (used : List ℕ) → ok ≡ false → false ≡ sound s → Tested s ok used
 fails s ok used e u = record { test = e ∙ u; sums = λ z. absurd (false≢true (sym e ∙ z)) }
 
+-- the places that the needs look back to, nearest first: past the list's test, the pass over the list, past the meter's and the settings'
+-- tests; and the state tested
+abbrev fourth : tie.After-threads → tie.Else4
+fourth c = c .before .before .before
+
+abbrev list-pass : tie.After-threads-pass → tie.After-list-seen
+list-pass c = (fourth (c .before)) .before .before
+
+abbrev second : tie.After-list-seen → tie.Else2
+second c = c .before .before .before
+
+abbrev first : tie.After-list-seen → tie.Else1
+first c = (second c) .before .before
+
+abbrev state : tie.Else1 → Scheduler
+state c = c .before .before .before .args .self
+
 ok-requires : tie.Need-ok-requires
 ok-requires c κs = search needs
 
@@ -27,7 +44,9 @@ failed-requires c κs = search needs
 returns : tie.Need-returns
 returns c =
     let d = c .before in
-    fails _ _ _ (c .failed .ensures) (unsound (d .before .before .before .args .self) (λ k. false≢true (sym (not-true _ (d .if1 .taken)) ∙ d .before .ok .ensures ∙ k .settings)))
+    let s = d .before .before .before .args in
+    fails _ _ _ (c .failed .ensures)
+    (unsound (s .self) (λ k. false≢true (sym (not-true _ (d .if1 .taken)) ∙ d .before .ok .ensures ∙ k .settings)))
 
 meter-ok-requires : tie.Need-meter-ok-requires
 meter-ok-requires c κs = search needs
@@ -38,7 +57,8 @@ failed-requires-2 c κs = search needs
 returns-2 : tie.Need-returns-2
 returns-2 c =
     let d = c .before in
-    fails _ _ _ (c .failed2 .ensures) (unsound (d .before .before .before .before .before .args .self) (λ k. false≢true (sym (not-true _ (d .if2 .taken)) ∙ d .before .meter-ok .ensures ∙ k .meter)))
+    fails _ _ _ (c .failed2 .ensures)
+    (unsound (state (d .before .before)) (λ k. false≢true (sym (not-true _ (d .if2 .taken)) ∙ d .before .meter-ok .ensures ∙ k .meter)))
 
 failed-requires-3 : tie.Need-failed-requires-3
 failed-requires-3 c κs = search needs
@@ -46,13 +66,13 @@ failed-requires-3 c κs = search needs
 returns-3 : tie.Need-returns-3
 returns-3 c =
     let d = c .before in
-    fails _ _ _ (c .failed3 .ensures) (unsound (d .before .before .before .before .before .before .args .self) (λ k. omega (arith, k .few, d .if3 .taken)))
+    fails _ _ _ (c .failed3 .ensures) (unsound (state (d .before .before .before)) (λ k. omega (arith, k .few, d .if3 .taken)))
 
 list-seen-requires : tie.Need-list-seen-requires
 list-seen-requires c κs = search needs
 
 -- what the pass over the list says of this state
-seen : (c : tie.After-list-seen) → ListSeen (listed (c .before .before .before .before .before .before .before .before .args .self)) (c .list-seen .result .ok) (c .list-seen .result .seen)
+seen : (c : tie.After-list-seen) → ListSeen (listed (state (first c))) (c .list-seen .result .ok) (c .list-seen .result .seen)
 unfolding listed
 seen c = c .list-seen .ensures
 
@@ -62,17 +82,25 @@ failed-requires-4 c κs = search needs
 returns-4 : tie.Need-returns-4
 returns-4 c =
     let d = c .before in
-    fails _ _ _ (c .failed4 .ensures) (unsound (d .before .before .before .before .before .before .before .before .before .before .args .self) (λ k. false≢true (sym (not-true _ (d .if4 .taken)) ∙ seen (d .before .before) .test ∙ k .list)))
+    fails _ _ _ (c .failed4 .ensures)
+    (unsound (state (first (d .before .before)))
+    (λ k. false≢true (sym (not-true _ (d .if4 .taken)) ∙ seen (d .before .before) .test ∙ k .list)))
 
 threads-pass-requires : tie.Need-threads-pass-requires
-threads-pass-requires c κs = (
-  settings-most (c .before .before .before .before .before .before .before .before .before .before .before .before .before .args .self .settings) (sym (c .before .before .before .before .before .before .before .before .before .before .before .ok .ensures) ∙ not-false _ (c .before .before .before .before .before .before .before .before .before .before .if1 .left)),
-  running-most (c .before .before .before .before .before .before .before .before .before .before .before .before .before .args .self) (sym (c .before .before .before .before .before .before .before .before .before .meter-ok .ensures) ∙ not-false _ (c .before .before .before .before .before .before .before .before .if2 .left)),
-)
+threads-pass-requires c κs =
+    let l = (fourth c) .before .before in
+    let a = first l in
+    let b = second l in (
+      settings-most ((state a) .settings) (sym (a .before .ok .ensures) ∙ not-false _ (a .if1 .left)),
+      running-most (state a) (sym (b .before .meter-ok .ensures) ∙ not-false _ (b .if2 .left)),
+    )
 
 -- what the pass over the threads says of this state
-passed : (c : tie.After-threads-pass) → ThreadsPass (c .before .before .before .before .before .before .before .before .before .before .before .before .before .before .args .self) (c .threads-pass .result .ok) (c .threads-pass .result .used)
-passed c = c .threads-pass .ensures (c .before .before .before .before .before .before .before .before .before .before .before .before .before .before .args .self) (seen (c .before .before .before .before .before .before) .marks (not-false _ (c .before .before .before .before .if4 .left)))
+passed : (c : tie.After-threads-pass)
+    → ThreadsPass (state (first (list-pass c))) (c .threads-pass .result .ok) (c .threads-pass .result .used)
+passed c =
+    let l = list-pass c in
+    c .threads-pass .ensures (state (first l)) (seen l .marks (not-false _ ((fourth (c .before)) .if4 .left)))
 
 failed-requires-5 : tie.Need-failed-requires-5
 failed-requires-5 c κs = search needs
@@ -80,22 +108,30 @@ failed-requires-5 c κs = search needs
 returns-5 : tie.Need-returns-5
 returns-5 c =
     let d = c .before in
-    fails _ _ _ (c .failed5 .ensures) (unsound (d .before .before .before .before .before .before .before .before .before .before .before .before .before .before .before .before .args .self) (λ k. false≢true (sym (not-true _ (d .if5 .taken)) ∙ passed (d .before .before) .test ∙ k .threads)))
+    fails _ _ _ (c .failed5 .ensures)
+    (unsound (state (first (list-pass (d .before .before))))
+    (λ k. false≢true (sym (not-true _ (d .if5 .taken)) ∙ passed (d .before .before) .test ∙ k .threads)))
 
 groups-ok-requires : tie.Need-groups-ok-requires
 groups-ok-requires c κs = passed (c .before .before .before) .small (not-false _ (c .before .if5 .left))
 
 returns-6 : tie.Need-returns-6
 returns-6 c =
-    let p = passed (c .before .before .before .before) in
+    let q = c .before .before .before .before in
+    let l = list-pass q in
+    let a = first l in
+    let b = second l in
+    let p = passed q in
     let ok = not-false _ (c .before .before .if5 .left) in
     record {
-      test = whole (c .before .before .before .before .before .before .before .before .before .before .before .before .before .before .before .before .before .before .args .self) (shaped (c .before .before .before .before .before .before .before .before .before .before .before .before .before .before .before .before .before .before .args .self) _ (c .before .before .before .before .before .before .before .before .before .before .before .before .before .before .before .before .before .before .good .0)) (c .groups-ok .result) (c .groups-ok .ensures (c .before .before .before .before .before .before .before .before .before .before .before .before .before .before .before .before .before .before .args .self) (p .sums ok))
+      test =
+          whole (state a) (shaped (state a) _ (a .before .before .before .good .0)) (c .groups-ok .result)
+          (c .groups-ok .ensures (state a) (p .sums ok))
           (λ g. record {
-            settings = sym (c .before .before .before .before .before .before .before .before .before .before .before .before .before .before .before .before .ok .ensures) ∙ not-false _ (c .before .before .before .before .before .before .before .before .before .before .before .before .before .before .before .if1 .left);
-            meter = sym (c .before .before .before .before .before .before .before .before .before .before .before .before .before .before .meter-ok .ensures) ∙ not-false _ (c .before .before .before .before .before .before .before .before .before .before .before .before .before .if2 .left);
-            few = c .before .before .before .before .before .before .before .before .before .before .before .before .if3 .left;
-            list = sym (seen (c .before .before .before .before .before .before .before .before .before .before) .test) ∙ not-false _ (c .before .before .before .before .before .before .before .before .if4 .left);
+            settings = sym (a .before .ok .ensures) ∙ not-false _ (a .if1 .left);
+            meter = sym (b .before .meter-ok .ensures) ∙ not-false _ (b .if2 .left);
+            few = l .before .before .if3 .left;
+            list = sym (seen l .test) ∙ not-false _ ((fourth (q .before)) .if4 .left);
             threads = sym (p .test) ∙ ok;
             groups = g;
           });

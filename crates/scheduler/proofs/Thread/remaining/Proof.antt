@@ -15,7 +15,8 @@ spare : (c : tie.Else1) → c .before .before .args .used < c .before .before .a
 unfolding renewed
 spare c =
     let a = c .before .before .args in
-    leb-false (a .self .allotment) (a .used) (or-false-r (eqb (a .reason) 2) (leb (a .self .allotment) (a .used)) (sym (c .before .renewed .ensures) ∙ c .if1 .left))
+    leb-false (a .self .allotment) (a .used) (or-false-r (eqb (a .reason) 2) (leb (a .self .allotment) (a .used))
+    (sym (c .before .renewed .ensures) ∙ c .if1 .left))
 
 renewed-requires : tie.Need-renewed-requires
 renewed-requires c κs = search needs
@@ -24,7 +25,9 @@ cast-result : tie.Need-cast-result
 cast-result c = search needs
 
 mul-result : tie.Need-mul-result
-mul-result c = omega (arith, mul-le-mul-left (c .before .before .before .args .self .reservation) (c .before .before .before .pre))
+mul-result c =
+    let s = c .before .before .before in
+    omega (arith, mul-le-mul-left (s .args .self .reservation) (s .pre))
 
 returns : tie.Need-returns
 returns c = simp (sym (c .before .before .renewed .ensures) ∙ c .before .if1 .taken)

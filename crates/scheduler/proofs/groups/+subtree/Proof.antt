@@ -60,7 +60,8 @@ subtree-loop-holds : (t : ℕ) → subtree-lts.Need-loop-holds (
   subtree-below t,
   subtree.Post,
 ) (subtree-at t) subtree.Post subtree-Inv-loop subtree-μ-loop
-subtree-loop-holds t c = below-none (c .args .t1) (c .args .t2) (c .args .group) (open-small (c .pre .1 .state) (c .args .group) (c .pre .1 .opened))
+subtree-loop-holds t c =
+    below-none (c .args .t1) (c .args .t2) (c .args .group) (open-small (c .pre .1 .state) (c .args .group) (c .pre .1 .opened))
 
 subtree-mul-x : (t : ℕ) → subtree-lts.Need-mul-x (
   under-reads.Asked,
@@ -93,10 +94,12 @@ subtree-subtree-requires : (t : ℕ) → subtree-lts.Need-subtree-requires (
   subtree.Post,
 ) (subtree-at t) subtree.Post subtree-Inv-loop subtree-μ-loop
 subtree-subtree-requires t c κs =
-    let l = c .before .before .before .before in
+    let l2 = c .before .before .before in
+    let l = l2 .before in
     let a = l .before in (
-      omega (arith, a .pre .0, l .loop .inv .least, c .before .before .before .loop-test .taken),
-      below-child (a .args .t1) (a .args .t2) (a .args .group) (l .loop .child) (l .loop .total) (l .loop .inv) (c .before .before .before .loop-test .taken) (a .pre .1)
+      omega (arith, a .pre .0, l .loop .inv .least, l2 .loop-test .taken),
+      below-child (a .args .t1) (a .args .t2) (a .args .group) (l .loop .child) (l .loop .total) (l .loop .inv) (l2 .loop-test .taken)
+          (a .pre .1)
           (sym (c .before .under .ensures) ∙ c .if1 .taken),
     )
 
@@ -107,11 +110,13 @@ subtree-add-total : (t : ℕ) → subtree-lts.Need-add-total (
   subtree.Post,
 ) (subtree-at t) subtree.Post subtree-Inv-loop subtree-μ-loop
 subtree-add-total t c =
-    let l = c .before .before .before .before .before in
+    let l2 = c .before .before .before .before in
+    let l = l2 .before in
     let a = l .before in
     omega (
       arith,
-      below-most (a .args .t1) (a .args .t2) (a .args .group) (l .loop .child) (l .loop .total) (l .loop .inv) (c .before .before .before .before .loop-test .taken) (a .pre .1)
+      below-most (a .args .t1) (a .args .t2) (a .args .group) (l .loop .child) (l .loop .total) (l .loop .inv) (l2 .loop-test .taken)
+          (a .pre .1)
           (c .subtree .result) (sym (c .before .before .under .ensures) ∙ c .before .if1 .taken) (c .subtree .ensures),
     )
 
@@ -121,7 +126,9 @@ subtree-add-child-2 : (t : ℕ) → subtree-lts.Need-add-child-2 (
   subtree-below t,
   subtree.Post,
 ) (subtree-at t) subtree.Post subtree-Inv-loop subtree-μ-loop
-subtree-add-child-2 t c = omega (arith, c .before .before .before .before .loop-test .taken)
+subtree-add-child-2 t c =
+    let l = c .before .before .before .before .loop-test in
+    omega (arith, l .taken)
 
 subtree-loop-less : (t : ℕ) → subtree-lts.Need-loop-less (
   under-reads.Asked,
@@ -129,7 +136,9 @@ subtree-loop-less : (t : ℕ) → subtree-lts.Need-loop-less (
   subtree-below t,
   subtree.Post,
 ) (subtree-at t) subtree.Post subtree-Inv-loop subtree-μ-loop
-subtree-loop-less t c = omega (arith, c .before .before .before .before .loop-test .taken)
+subtree-loop-less t c =
+    let l = c .before .before .before .before .loop-test in
+    omega (arith, l .taken)
 
 subtree-loop-again : (t : ℕ) → subtree-lts.Need-loop-again (
   under-reads.Asked,
@@ -138,9 +147,10 @@ subtree-loop-again : (t : ℕ) → subtree-lts.Need-loop-again (
   subtree.Post,
 ) (subtree-at t) subtree.Post subtree-Inv-loop subtree-μ-loop
 subtree-loop-again t c =
-    let l = c .before .before .before .before .before in
+    let l2 = c .before .before .before .before in
+    let l = l2 .before in
     let a = l .before in
-    below-add (a .args .t1) (a .args .t2) (a .args .group) (l .loop .child) (l .loop .total) (l .loop .inv) (c .before .before .before .before .loop-test .taken)
+    below-add (a .args .t1) (a .args .t2) (a .args .group) (l .loop .child) (l .loop .total) (l .loop .inv) (l2 .loop-test .taken)
     (c .subtree .result) (sym (c .before .before .under .ensures) ∙ c .before .if1 .taken) (c .subtree .ensures)
 
 subtree-add-child-3 : (t : ℕ) → subtree-lts.Need-add-child-3 (
@@ -149,7 +159,9 @@ subtree-add-child-3 : (t : ℕ) → subtree-lts.Need-add-child-3 (
   subtree-below t,
   subtree.Post,
 ) (subtree-at t) subtree.Post subtree-Inv-loop subtree-μ-loop
-subtree-add-child-3 t c = omega (arith, c .before .before .before .loop-test .taken)
+subtree-add-child-3 t c =
+    let l = c .before .before .before .loop-test in
+    omega (arith, l .taken)
 
 subtree-loop-less-2 : (t : ℕ) → subtree-lts.Need-loop-less-2 (
   under-reads.Asked,
@@ -157,7 +169,9 @@ subtree-loop-less-2 : (t : ℕ) → subtree-lts.Need-loop-less-2 (
   subtree-below t,
   subtree.Post,
 ) (subtree-at t) subtree.Post subtree-Inv-loop subtree-μ-loop
-subtree-loop-less-2 t c = omega (arith, c .before .before .before .loop-test .taken)
+subtree-loop-less-2 t c =
+    let l = c .before .before .before .loop-test in
+    omega (arith, l .taken)
 
 subtree-loop-again-2 : (t : ℕ) → subtree-lts.Need-loop-again-2 (
   under-reads.Asked,
@@ -166,9 +180,10 @@ subtree-loop-again-2 : (t : ℕ) → subtree-lts.Need-loop-again-2 (
   subtree.Post,
 ) (subtree-at t) subtree.Post subtree-Inv-loop subtree-μ-loop
 subtree-loop-again-2 t c =
-    let l = c .before .before .before .before in
+    let l2 = c .before .before .before in
+    let l = l2 .before in
     let a = l .before in
-    below-skip (a .args .t1) (a .args .t2) (a .args .group) (l .loop .child) (l .loop .total) (l .loop .inv) (c .before .before .before .loop-test .taken)
+    below-skip (a .args .t1) (a .args .t2) (a .args .group) (l .loop .child) (l .loop .total) (l .loop .inv) (l2 .loop-test .taken)
     (sym (c .before .under .ensures) ∙ c .if1 .left)
 
 subtree-returns : (t : ℕ) → subtree-lts.Need-returns (

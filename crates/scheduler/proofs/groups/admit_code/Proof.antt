@@ -21,6 +21,10 @@ fresh : (c : tie.Else3) (s : Scheduler) →
     (a .args .number < 64 → a .args .status ≡ (threadAt s (a .args .number)) .status) → (threadAt s (a .args .number)) .status ≤ 0
 fresh c s q = omega (arith, q (c .before .if2 .left), c .if3 .left)
 
+-- the place that the needs look back to
+abbrev start : tie.Else3 → tie.Start
+start p = p .before .before .before
+
 returns : tie.Need-returns
 returns c = λ s w g l q.
     let a = c .before in
@@ -44,11 +48,14 @@ is-open-requires : tie.Need-is-open-requires
 is-open-requires c κs = search needs
 
 returns-4 : tie.Need-returns-4
-returns-4 c = λ s w g l q.
-    let e = c .before .before in
-    let a = e .before .before .before in
-    admit-nowhere s (a .args .number) (a .args .group) (a .args .reservation) (ok (e .before .before) s w) (e .before .if2 .left) (fresh e s q)
-    (sym (c .before .is-open .ensures s g) ∙ not-true (c .before .is-open .result) (c .if4 .taken))
+returns-4 c =
+    let i = c .before in
+    λ s w g l q.
+    let e = i .before in
+    let a = start e in
+    admit-nowhere s (a .args .number) (a .args .group) (a .args .reservation) (ok (e .before .before) s w) (e .before .if2 .left)
+    (fresh e s q)
+    (sym (i .is-open .ensures s g) ∙ not-true (i .is-open .result) (c .if4 .taken))
 
 free-in-requires : tie.Need-free-in-requires
 free-in-requires c κs = search needs
@@ -60,10 +67,12 @@ returns-5 : tie.Need-returns-5
 returns-5 c = λ s w g l q.
     let h = c .before .before in
     let e = h .before .before in
-    let a = e .before .before .before in
+    let a = start e in
     c .amount-code .ensures
-    ∙ ap (λ (n : ℕ). amountChecks n (a .args .reservation)) (c .before .free-in .ensures s g (l (not-false (a .args .ok) (e .before .before .if1 .left))))
-    ∙ admit-amount s (a .args .number) (a .args .group) (a .args .reservation) (ok (e .before .before) s w) (e .before .if2 .left) (fresh e s q)
+    ∙ ap (λ (n : ℕ). amountChecks n (a .args .reservation))
+    (c .before .free-in .ensures s g (l (not-false (a .args .ok) (e .before .before .if1 .left))))
+    ∙ admit-amount s (a .args .number) (a .args .group) (a .args .reservation) (ok (e .before .before) s w) (e .before .if2 .left)
+    (fresh e s q)
     (sym (h .before .is-open .ensures s g) ∙ not-false (h .before .is-open .result) (h .if4 .left))
 
 pub admit-code-spec : {M : Type 1} → statement M

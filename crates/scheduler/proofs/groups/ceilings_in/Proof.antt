@@ -40,7 +40,8 @@ loop-again : tie.Need-loop-again Inv-loop μ-loop
 loop-again c =
     let a = c .before .before .before .before in
     let l = c .before .before .before .loop in
-    summed-more (a .args .t1) (a .args .group) (l .i) (l .total) (l .inv) (c .before .before .loop-test .taken) (c .takes .result) (omega arith) (c .takes .ensures)
+    summed-more (a .args .t1) (a .args .group) (l .i) (l .total) (l .inv) (c .before .before .loop-test .taken) (c .takes .result)
+    (omega arith) (c .takes .ensures)
 
 returns : tie.Need-returns Inv-loop μ-loop
 returns c =

@@ -16,7 +16,11 @@ use Rattle.scheduler.proofs.groups.close_code.Tie as tie
 ok : (c : tie.Else1) (s : Scheduler) → c .before .args .ok ≡ sound s → sound s ≡ true
 ok c s w = sym w ∙ not-false (c .before .args .ok) (c .if1 .left)
 
-opened : (c : tie.Else3) (s : Scheduler) → s .groups ≡ c .before .before .before .before .args .groups → openAt s (c .before .before .before .before .args .number) ≡ true
+-- the place that the needs and `opened` look back to
+abbrev start : tie.Else3 → tie.Start
+start p = p .before .before .before .before
+
+opened : (c : tie.Else3) (s : Scheduler) → s .groups ≡ (start c) .args .groups → openAt s ((start c) .args .number) ≡ true
 opened c s g = sym (c .before .is-open .ensures s g) ∙ not-false (c .before .is-open .result) (c .if3 .left)
 
 returns : tie.Need-returns
@@ -29,25 +33,29 @@ is-open-requires : tie.Need-is-open-requires
 is-open-requires c κs = search needs
 
 returns-3 : tie.Need-returns-3
-returns-3 c = λ s w g l.
-    let a = c .before .before .before .before in
-    close-closed s (a .args .number) (ok (c .before .before .before) s w) (c .before .before .if2 .left)
+returns-3 c =
+    let p = c .before .before .before in
+    λ s w g l.
+    let a = p .before in
+    close-closed s (a .args .number) (ok (p) s w) (c .before .before .if2 .left)
     (sym (c .before .is-open .ensures s g) ∙ not-true (c .before .is-open .result) (c .if3 .taken))
 
 returns-4 : tie.Need-returns-4
 returns-4 c = λ s w g l.
     let e = c .before in
-    let a = e .before .before .before .before in
+    let a = start e in
     let o = opened e s g in
-    let q = l (not-false (a .args .ok) (e .before .before .before .if1 .left)) (open-small s (a .args .number) (holds (openAt s (a .args .number)) o)) in
+    let q = l (not-false (a .args .ok) (e .before .before .before .if1 .left))
+    (open-small s (a .args .number) (holds (openAt s (a .args .number)) o)) in
     close-used s (a .args .number) (ok (e .before .before .before) s w) (e .before .before .if2 .left) o (λ z. c .if4 .taken (q ∙ z))
 
 returns-5 : tie.Need-returns-5
 returns-5 c = λ s w g l.
     let e = c .before in
-    let a = e .before .before .before .before in
+    let a = start e in
     let o = opened e s g in
-    let q = l (not-false (a .args .ok) (e .before .before .before .if1 .left)) (open-small s (a .args .number) (holds (openAt s (a .args .number)) o)) in
+    let q = l (not-false (a .args .ok) (e .before .before .before .if1 .left))
+    (open-small s (a .args .number) (holds (openAt s (a .args .number)) o)) in
     close-free s (a .args .number) (ok (e .before .before .before) s w) (e .before .before .if2 .left) o (sym q ∙ c .if4 .left)
 
 pub close-code-spec : {M : Type 1} → statement M

@@ -21,7 +21,8 @@ returns-2 : tie.Need-returns-2
 returns-2 c = λ s e l.
     let b = c .before .before .before in
     let a = b .before in
-    free-over (a .args .t1) (a .args .group) (a .args .used) (c .if2 .taken) ∙ free-is (a .args .t1) s e (a .args .group) (a .args .used) (l (b .if1 .left))
+    free-over (a .args .t1) (a .args .group) (a .args .used) (c .if2 .taken)
+    ∙ free-is (a .args .t1) s e (a .args .group) (a .args .used) (l (b .if1 .left))
 
 returns-3 : tie.Need-returns-3
 returns-3 c = λ s e l.

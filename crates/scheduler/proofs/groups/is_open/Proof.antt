@@ -14,7 +14,9 @@ array-copy-out-x : tie.Need-array-copy-out-x
 array-copy-out-x c = search needs
 
 returns-2 : tie.Need-returns-2
-returns-2 c = λ s e. open-near (c .before .before .before .args .t1) s e (c .before .before .before .args .group) (c .before .before .if1 .left)
+returns-2 c =
+    let s2 = c .before .before .before .args in
+    λ s e. open-near (s2 .t1) s e (s2 .group) (c .before .before .if1 .left)
 
 pub is-open-spec : {M : Type 1} → statement M
 is-open-spec = tie.close (tie.spec returns mul-x array-copy-out-x returns-2)

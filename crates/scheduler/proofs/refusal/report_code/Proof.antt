@@ -11,13 +11,18 @@ returns c = simp (not-true (c .before .args .ok) (c .if1 .taken))
 
 returns-2 : tie.Need-returns-2
 unfolding firstOf
-returns-2 c = simp (not-false (c .before .before .args .ok) (c .before .if1 .left), eq-eqb (c .before .before .args .running) 64 (omega arith))
+returns-2 c =
+    simp (not-false (c .before .before .args .ok) (c .before .if1 .left), eq-eqb (c .before .before .args .running) 64 (omega arith))
 
 returns-3 : tie.Need-returns-3
 unfolding firstOf
 returns-3 c =
     let a = c .before .before .before .args in
-    simp (not-false (a .ok) (c .before .before .if1 .left), ne-eqb (a .running) 64 (c .before .if2 .left), lt-ltb 3 (a .reason) (c .if3 .taken))
+    simp (
+      not-false (a .ok) (c .before .before .if1 .left),
+      ne-eqb (a .running) 64 (c .before .if2 .left),
+      lt-ltb 3 (a .reason) (c .if3 .taken),
+    )
 
 returns-4 : tie.Need-returns-4
 unfolding firstOf

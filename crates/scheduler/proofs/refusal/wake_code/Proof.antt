@@ -15,12 +15,17 @@ cast-if2 c = search needs
 
 returns-2 : tie.Need-returns-2
 unfolding firstOf
-returns-2 c = simp (not-false (c .before .before .args .ok) (c .before .if1 .left), lt-ltb 63 (c .before .before .args .number) (omega arith))
+returns-2 c =
+    simp (not-false (c .before .before .args .ok) (c .before .if1 .left), lt-ltb 63 (c .before .before .args .number) (omega arith))
 
 returns-3 : tie.Need-returns-3
 unfolding firstOf
 returns-3 c =
-    simp (not-false (c .before .before .before .args .ok) (c .before .before .if1 .left), le-ltb 63 (c .before .before .before .args .number) (omega arith), c .if3 .taken)
+    simp (
+      not-false (c .before .before .before .args .ok) (c .before .before .if1 .left),
+      le-ltb 63 (c .before .before .before .args .number) (omega arith),
+      c .if3 .taken,
+    )
 
 returns-4 : tie.Need-returns-4
 unfolding firstOf

@@ -14,7 +14,9 @@ sub-result : tie.Need-sub-result
 sub-result c = omega arith
 
 returns-3 : tie.Need-returns-3
-returns-3 c = rw (le-leb _ _ (c .before .before .before .if1 .left), le-leb _ _ (c .before .before .if2 .left))
+returns-3 c =
+    let i1 = c .before .before .before .if1 in
+    rw (le-leb _ _ (i1 .left), le-leb _ _ (c .before .before .if2 .left))
 
 pub account-ok-spec : {M : Type 1} → statement M
 account-ok-spec = tie.close (tie.spec returns returns-2 sub-result returns-3)

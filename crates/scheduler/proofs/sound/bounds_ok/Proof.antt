@@ -21,7 +21,9 @@ cast-g : tie.Need-cast-g
 cast-g c = search needs
 
 returns-2 : tie.Need-returns-2
-returns-2 c = rw (c .before .account-ok .ensures, sym (c .before .before .before .quota-ok .ensures) ∙ not-false _ (c .before .before .if1 .left))
+returns-2 c =
+    let q = c .before .before .before .quota-ok in
+    rw (c .before .account-ok .ensures, sym (q .ensures) ∙ not-false _ (c .before .before .if1 .left))
 
 pub bounds-ok-spec : {M : Type 1} → statement M
 bounds-ok-spec =

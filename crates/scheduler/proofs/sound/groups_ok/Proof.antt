@@ -18,6 +18,22 @@ Inv-loop groups used₀ i₀ used i = GroupsInv groups used₀ i used
 abbrev μ-loop : tie.MeasureT-loop
 μ-loop groups used₀ i₀ used i = i
 
+-- the places that the needs look back to
+abbrev in-loop : tie.After-struct-known3 Inv-loop μ-loop → tie.In-loop Inv-loop μ-loop
+in-loop p = p .before .before .before .before .before .before .before
+
+abbrev else2 : tie.Else3 Inv-loop μ-loop → tie.Else2 Inv-loop μ-loop
+else2 p = p .before .before .before .before
+
+abbrev at-loop : tie.Else2 Inv-loop μ-loop → tie.At-loop Inv-loop μ-loop
+at-loop p = p .before .before .before .before .before
+
+abbrev in-loop2 : tie.After-struct-known Inv-loop μ-loop → tie.In-loop Inv-loop μ-loop
+in-loop2 p = p .before .before .before
+
+abbrev at-loop2 : tie.Then1 Inv-loop μ-loop → tie.At-loop Inv-loop μ-loop
+at-loop2 p = p .before .before .before
+
 sub-i : tie.Need-sub-i Inv-loop μ-loop
 sub-i c = lit≤ tt
 
@@ -38,23 +54,37 @@ sub-i-2 : tie.Need-sub-i-2 Inv-loop μ-loop
 sub-i-2 c = c .before .before .loop-test .taken
 
 loop-less : tie.Need-loop-less Inv-loop μ-loop
-loop-less c = falls-down (c .before .before .before .loop .i) (c .before .before .loop-test .taken)
+loop-less c =
+    let l = (at-loop2 c) .loop in
+    falls-down (l .i) (c .before .before .loop-test .taken)
 
 loop-again : tie.Need-loop-again Inv-loop μ-loop
-loop-again c = inv-skip (c .before .before .before .loop .inv) (c .before .before .loop-test .taken) (c .if1 .taken)
+loop-again c =
+    let l = (at-loop2 c) .loop in
+    inv-skip (l .inv) (c .before .before .loop-test .taken) (c .if1 .taken)
 
 cast-parent : tie.Need-cast-parent Inv-loop μ-loop
 cast-parent c = fits-8-64 (c .struct-known .given .1 .0)
 
 returns : tie.Need-returns Inv-loop μ-loop
-returns c = inv-high (c .before .before .before .before .before .loop .inv) (c .before .before .before .before .loop-test .taken) (c .before .before .if1 .left) (c .if2 .taken)
+returns c =
+    let l = in-loop2 (c .before) in
+    let l2 = l .before .loop in
+    inv-high (l2 .inv) (l .loop-test .taken) (c .before .before .if1 .left) (c .if2 .taken)
 
 -- its parent
-parent : (c : tie.Else2 Inv-loop μ-loop) → (getD (c .before .before .before .before .before .before .args .t1) (c .before .before .before .before .before .loop .i) noGroup) .parent < 16
-parent c = lt-trans (c .if2 .left) (index (c .before .before .before .before))
+parent : (c : tie.Else2 Inv-loop μ-loop)
+    → (getD (c .before .before .before .before .before .before .args .t1) (c .before .before .before .before .before .loop .i)
+    noGroup) .parent < 16
+parent c =
+    let p = in-loop2 (c .before) in
+    lt-trans (c .if2 .left) (index (p))
 
 mul-home : tie.Need-mul-home Inv-loop μ-loop
-mul-home c = scaled-fits ((getD (c .before .before .before .before .before .before .args .t1) (c .before .before .before .before .before .loop .i) noGroup) .parent) 16 4 (parent c) (lit< tt)
+mul-home c =
+    let l = at-loop c in
+    let s = l .before .args in
+    scaled-fits ((getD (s .t1) (l .loop .i) noGroup) .parent) 16 4 (parent c) (lit< tt)
 
 array-copy-out-home : tie.Need-array-copy-out-home Inv-loop μ-loop
 array-copy-out-home c = parent c
@@ -63,37 +93,71 @@ cast-ceiling : tie.Need-cast-ceiling Inv-loop μ-loop
 cast-ceiling c = fits-widen tt (c .struct-known2 .given .0)
 
 mul-ok : tie.Need-mul-ok Inv-loop μ-loop
-mul-ok c = scaled-fits (c .before .before .before .before .before .before .before .before .loop .i) 16 4 (index (c .before .before .before .before .before .before .before)) (lit< tt)
+mul-ok c =
+    let p = in-loop c in
+    let l = p .before .loop in
+    scaled-fits (l .i) 16 4 (index (p)) (lit< tt)
 
 array-read-ok : tie.Need-array-read-ok Inv-loop μ-loop
-array-read-ok c = index (c .before .before .before .before .before .before .before)
+array-read-ok c =
+    let p = in-loop c in
+    index (p)
 
 returns-2 : tie.Need-returns-2 Inv-loop μ-loop
-returns-2 c = inv-bad (c .before .before .before .before .before .before .before .before .before .loop .inv) (c .before .before .before .before .before .before .before .before .loop-test .taken) (c .before .before .before .before .before .before .if1 .left) (not-true _ (c .if3 .taken))
+returns-2 c =
+    let i1 = c .before .before .before .before .before .before in
+    let l = i1 .before .before in
+    let l2 = l .before .loop in
+    inv-bad (l2 .inv) (l .loop-test .taken) (i1 .if1 .left) (not-true _ (c .if3 .taken))
 
 mul-used : tie.Need-mul-used Inv-loop μ-loop
-mul-used c = scaled-fits ((getD (c .before .before .before .before .before .before .before .before .before .before .args .t1) (c .before .before .before .before .before .before .before .before .before .loop .i) noGroup) .parent) 16 4 (parent (c .before .before .before .before)) (lit< tt)
+mul-used c =
+    let p = else2 c in
+    let l = at-loop p in
+    let s = l .before .args in
+    scaled-fits ((getD (s .t1) (l .loop .i) noGroup) .parent) 16 4 (parent (p)) (lit< tt)
 
 array-read-used : tie.Need-array-read-used Inv-loop μ-loop
-array-read-used c = parent (c .before .before .before .before)
+array-read-used c =
+    let p = else2 c in
+    parent (p)
 
 add-used : tie.Need-add-used Inv-loop μ-loop
-add-used c = sum-fits (c .before .before .before .before .before .before .before .before .before .loop .inv) (c .before .before .before .before .before .before .before .before .loop-test .taken) (c .before .before .before .before .if2 .left) (not-false _ (c .if3 .left))
+add-used c =
+    let i2 = else2 c in
+    let l = in-loop2 (i2 .before) in
+    let l2 = l .before .loop in
+    sum-fits (l2 .inv) (l .loop-test .taken) (i2 .if2 .left) (not-false _ (c .if3 .left))
 
 mul-used-2 : tie.Need-mul-used-2 Inv-loop μ-loop
-mul-used-2 c = scaled-fits ((getD (c .before .before .before .before .before .before .before .before .before .before .args .t1) (c .before .before .before .before .before .before .before .before .before .loop .i) noGroup) .parent) 16 4 (parent (c .before .before .before .before)) (lit< tt)
+mul-used-2 c =
+    let p = else2 c in
+    let l = at-loop p in
+    let s = l .before .args in
+    scaled-fits ((getD (s .t1) (l .loop .i) noGroup) .parent) 16 4 (parent (p)) (lit< tt)
 
 array-write-used : tie.Need-array-write-used Inv-loop μ-loop
-array-write-used c = parent (c .before .before .before .before)
+array-write-used c =
+    let p = else2 c in
+    parent (p)
 
 sub-i-3 : tie.Need-sub-i-3 Inv-loop μ-loop
-sub-i-3 c = c .before .before .before .before .before .before .before .before .loop-test .taken
+sub-i-3 c =
+    let l = (in-loop (c .before)) .loop-test in
+    l .taken
 
 loop-less-2 : tie.Need-loop-less-2 Inv-loop μ-loop
-loop-less-2 c = falls-down (c .before .before .before .before .before .before .before .before .before .loop .i) (c .before .before .before .before .before .before .before .before .loop-test .taken)
+loop-less-2 c =
+    let l = in-loop (c .before) in
+    let l2 = l .before .loop in
+    falls-down (l2 .i) (l .loop-test .taken)
 
 loop-again-2 : tie.Need-loop-again-2 Inv-loop μ-loop
-loop-again-2 c = inv-add (c .before .before .before .before .before .before .before .before .before .loop .inv) (c .before .before .before .before .before .before .before .before .loop-test .taken) (c .before .before .before .before .if2 .left) (not-false _ (c .if3 .left))
+loop-again-2 c =
+    let i2 = else2 c in
+    let l = in-loop2 (i2 .before) in
+    let l2 = l .before .loop in
+    inv-add (l2 .inv) (l .loop-test .taken) (i2 .if2 .left) (not-false _ (c .if3 .left))
 
 array-copy-out-root : tie.Need-array-copy-out-root Inv-loop μ-loop
 array-copy-out-root c = lit< tt
@@ -105,7 +169,10 @@ array-read-result : tie.Need-array-read-result Inv-loop μ-loop
 array-read-result c = lit< tt
 
 returns-3 : tie.Need-returns-3 Inv-loop μ-loop
-returns-3 c = inv-end (c .before .before .before .before .loop .inv) (c .before .before .before .loop-test .left)
+returns-3 c =
+    let l = c .before .before .before in
+    let l2 = l .before .loop in
+    inv-end (l2 .inv) (l .loop-test .left)
 
 pub groups-ok-spec : {M : Type 1} → statement M
 groups-ok-spec =

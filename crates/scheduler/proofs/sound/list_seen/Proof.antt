@@ -17,6 +17,10 @@ abbrev μ-loop : tie.MeasureT-loop
 long : (c : tie.Start Inv-loop μ-loop) → c .args .count ≤ length (c .args .t1)
 long c = omega (arith, c .good .0 .1 .0 .1)
 
+-- the place that the needs look back to
+abbrev start : tie.Else1 Inv-loop μ-loop → tie.Start Inv-loop μ-loop
+start p = p .before .before .before
+
 loop-holds : tie.Need-loop-holds Inv-loop μ-loop
 loop-holds c = list-none (c .args .t1) (c .args .count)
 
@@ -38,8 +42,9 @@ array-read-if2 c = omega arith
 returns-2 : tie.Need-returns-2 Inv-loop μ-loop
 returns-2 c =
     let l = c .before .before .before .loop in
-    let s = c .before .before .before .before in
-    list-twice (s .args .t1) (s .args .count) (l .i) (l .seen) (l .inv) (c .before .before .loop-test .taken) (long s) (c .before .if1 .left) (c .if2 .taken)
+    let s = start (c .before) in
+    list-twice (s .args .t1) (s .args .count) (l .i) (l .seen) (l .inv) (c .before .before .loop-test .taken) (long s)
+    (c .before .if1 .left) (c .if2 .taken)
 
 array-write-seen : tie.Need-array-write-seen Inv-loop μ-loop
 array-write-seen c = omega arith
@@ -53,8 +58,9 @@ loop-less c = omega arith
 loop-again : tie.Need-loop-again Inv-loop μ-loop
 loop-again c =
     let l = c .before .before .before .loop in
-    let s = c .before .before .before .before in
-    list-add (s .args .t1) (s .args .count) (l .i) (l .seen) (l .inv) (c .before .before .loop-test .taken) (long s) (c .before .if1 .left) (c .if2 .left)
+    let s = start (c .before) in
+    list-add (s .args .t1) (s .args .count) (l .i) (l .seen) (l .inv) (c .before .before .loop-test .taken) (long s) (c .before .if1 .left)
+    (c .if2 .left)
 
 returns-3 : tie.Need-returns-3 Inv-loop μ-loop
 returns-3 c =

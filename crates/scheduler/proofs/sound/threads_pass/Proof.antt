@@ -9,7 +9,8 @@ use borrow.Author.Needs.{scaled-fits}
 use borrow.Author.Tests.{not-true, not-false}
 use Rattle.scheduler.specs.State.{noThread}
 use Rattle.scheduler.proofs.sound.Laws.{strict, next-fits}
-use Rattle.scheduler.proofs.sound.Threads.{numbers-of, ThreadsInv, inv-none, inv-skip, inv-free, inv-place, inv-status, inv-bounds, inv-home, inv-add, sum-fits, inv-idle, inv-run}
+use Rattle.scheduler.proofs.sound.Threads.{numbers-of, ThreadsInv, inv-none, inv-skip, inv-free, inv-place, inv-status, inv-bounds}
+use Rattle.scheduler.proofs.sound.Threads.{inv-home, inv-add, sum-fits, inv-idle, inv-run}
 use Rattle.scheduler.proofs.sound.threads_pass.Statement.{statement}
 use Rattle.scheduler.proofs.sound.threads_pass.Tie as tie
 
@@ -18,6 +19,13 @@ Inv-loop m meter running threads groups seen used₀ i₀ used i = ThreadsInv th
 
 abbrev μ-loop : tie.MeasureT-loop
 μ-loop m meter running threads groups seen used₀ i₀ used i = 64 - i
+
+-- the places that the needs look back to
+abbrev in-loop : tie.Else2 Inv-loop μ-loop → tie.In-loop Inv-loop μ-loop
+in-loop p = p .before .before .before
+
+abbrev in-loop2 : tie.Else3 Inv-loop μ-loop → tie.In-loop Inv-loop μ-loop
+in-loop2 p = p .before .before .before
 
 loop-holds : tie.Need-loop-holds Inv-loop μ-loop
 loop-holds c = inv-none
@@ -41,13 +49,22 @@ returns c =
     inv-place (t .before .loop .inv) (t .loop-test .taken) (c .before .if2 .taken) (not-true _ (f .if1 .taken)) (c .failed .ensures)
 
 add-i : tie.Need-add-i Inv-loop μ-loop
-add-i c = next-fits (c .before .before .before .before .loop .i) (c .before .before .before .loop-test .taken)
+add-i c =
+    let l = in-loop c in
+    let l2 = l .before .loop in
+    next-fits (l2 .i) (l .loop-test .taken)
 
 loop-less : tie.Need-loop-less Inv-loop μ-loop
-loop-less c = falls 64 (c .before .before .before .before .loop .i) (c .before .before .before .loop-test .taken)
+loop-less c =
+    let l = in-loop c in
+    let l2 = l .before .loop in
+    falls 64 (l2 .i) (l .loop-test .taken)
 
 loop-again : tie.Need-loop-again Inv-loop μ-loop
-loop-again c = inv-skip (c .before .before .before .before .loop .inv) (c .before .before .before .loop-test .taken) (c .if2 .left) (not-true _ (c .before .if1 .taken))
+loop-again c =
+    let l = in-loop c in
+    let l2 = l .before .loop in
+    inv-skip (l2 .inv) (l .loop-test .taken) (c .if2 .left) (not-true _ (c .before .if1 .taken))
 
 failed-requires-2 : tie.Need-failed-requires-2 Inv-loop μ-loop
 failed-requires-2 c κs = tt
@@ -64,11 +81,13 @@ failed-requires-3 c κs = tt
 returns-3 : tie.Need-returns-3 Inv-loop μ-loop
 returns-3 c =
     let f = c .before .before in
-    let t = f .before .before .before in
+    let t = in-loop2 f in
     inv-status (t .before .loop .inv) (t .loop-test .taken) (f .if3 .left) (c .before .if4 .taken) (c .failed3 .ensures)
 
 bounds-ok-requires : tie.Need-bounds-ok-requires Inv-loop μ-loop
-bounds-ok-requires c κs = c .before .before .before .before .before .before .pre .0
+bounds-ok-requires c κs =
+    let f = c .before .before .before .before in
+    f .before .before .pre .0
 
 failed-requires-4 : tie.Need-failed-requires-4 Inv-loop μ-loop
 failed-requires-4 c κs = tt
@@ -77,8 +96,9 @@ returns-4 : tie.Need-returns-4 Inv-loop μ-loop
 returns-4 c =
     let b = c .before .before in
     let f = b .before .before in
-    let t = f .before .before .before in
-    inv-bounds (t .before .loop .inv) (t .loop-test .taken) (f .if3 .left) (b .bounds-ok .ensures) (c .before .if5 .taken) (c .failed4 .ensures)
+    let t = in-loop2 f in
+    inv-bounds (t .before .loop .inv) (t .loop-test .taken) (f .if3 .left) (b .bounds-ok .ensures) (c .before .if5 .taken)
+    (c .failed4 .ensures)
 
 cast-g : tie.Need-cast-g Inv-loop μ-loop
 cast-g c = fits-8-64 (c .struct-known .given .1 .1 .1 .1 .1 .1 .0)
@@ -94,7 +114,8 @@ module _ (c : tie.After-struct-known Inv-loop μ-loop) where
   low : group < 16
   low =
       let s = turn .before .before in
-      numbers-of (s .args .m) (s .args .meter) (getD (s .args .t1) (turn .before .loop .i) noThread) (sym (c .before .before .bounds-ok .ensures) ∙ not-false _ (c .before .if5 .left)) .low
+      numbers-of (s .args .m) (s .args .meter) (getD (s .args .t1) (turn .before .loop .i) noThread)
+      (sym (c .before .before .bounds-ok .ensures) ∙ not-false _ (c .before .if5 .left)) .low
 
 mul-opened : tie.Need-mul-opened Inv-loop μ-loop
 mul-opened c = scaled-fits (group c) 16 4 (low c) (lit< tt)
@@ -128,7 +149,8 @@ add-used c =
     let v = b .before in
     let f = v .before in
     let t = turn k in
-    sum-fits (t .before .loop .inv) (t .loop-test .taken) (f .if3 .left) (not-false _ (f .before .if1 .left)) (v .if4 .left) (b .bounds-ok .ensures) (not-false _ (k .before .if5 .left)) (c .before .if6 .left)
+    sum-fits (t .before .loop .inv) (t .loop-test .taken) (f .if3 .left) (not-false _ (f .before .if1 .left)) (v .if4 .left)
+    (b .bounds-ok .ensures) (not-false _ (k .before .if5 .left)) (c .before .if6 .left)
 
 mul-used-2 : tie.Need-mul-used-2 Inv-loop μ-loop
 mul-used-2 c = scaled-fits (group (c .before .before)) 16 4 (low (c .before .before)) (lit< tt)
@@ -149,20 +171,25 @@ loop-again-2 c =
     let v = b .before in
     let f = v .before in
     let t = turn k in
-    inv-add (t .before .loop .inv) (t .loop-test .taken) (f .if3 .left) (not-false _ (f .before .if1 .left)) (v .if4 .left) (b .bounds-ok .ensures) (not-false _ (k .before .if5 .left)) (c .before .if6 .left)
+    inv-add (t .before .loop .inv) (t .loop-test .taken) (f .if3 .left) (not-false _ (f .before .if1 .left)) (v .if4 .left)
+    (b .bounds-ok .ensures) (not-false _ (k .before .if5 .left)) (c .before .if6 .left)
 
 passed-requires : tie.Need-passed-requires Inv-loop μ-loop
 passed-requires c κs = tt
 
 returns-6 : tie.Need-returns-6 Inv-loop μ-loop
-returns-6 c = inv-idle (c .before .before .before .loop .inv) (c .before .before .loop-test .left) (c .before .if7 .taken) (c .passed .ensures)
+returns-6 c =
+    let l = c .before .before .before .loop in
+    inv-idle (l .inv) (c .before .before .loop-test .left) (c .before .if7 .taken) (c .passed .ensures)
 
 -- the running thread's number
 running : (c : tie.Else7 Inv-loop μ-loop) → c .before .before .before .args .running < 64
 running c = strict (c .before .before .before .pre .1) (c .if7 .left)
 
 mul-x : tie.Need-mul-x Inv-loop μ-loop
-mul-x c = scaled-fits (c .before .before .before .args .running) 64 40 (running c) (lit< tt)
+mul-x c =
+    let s = c .before .before .before .args in
+    scaled-fits (s .running) 64 40 (running c) (lit< tt)
 
 array-copy-out-x : tie.Need-array-copy-out-x Inv-loop μ-loop
 array-copy-out-x c = running c
@@ -171,7 +198,11 @@ passed-requires-2 : tie.Need-passed-requires-2 Inv-loop μ-loop
 passed-requires-2 c κs = tt
 
 returns-7 : tie.Need-returns-7 Inv-loop μ-loop
-returns-7 c = inv-run (c .before .before .before .before .before .loop .inv) (c .before .before .before .before .loop-test .left) (c .before .before .before .if7 .left) (c .passed2 .ensures)
+returns-7 c =
+    let i7 = c .before .before .before in
+    let l = i7 .before in
+    let l2 = l .before .loop in
+    inv-run (l2 .inv) (l .loop-test .left) (i7 .if7 .left) (c .passed2 .ensures)
 
 pub threads-pass-spec : {M : Type 1} → statement M
 threads-pass-spec =
