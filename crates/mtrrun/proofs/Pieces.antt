@@ -1,11 +1,11 @@
 -- Pieces of the input: what a run over one leaves, and that one after the other they leave what all the bytes do.
-use mathlib.Core.Path.{_≡_, refl, sym, ap, _∙_}
+use mathlib.Core.Path.{_≡_, refl, sym, ap, subst, _∙_}
 use mathlib.Core.List.{List, [], _++_}
-use mathlib.Core.Bool.{true}
+use mathlib.Core.Bool.{Bool, true, false, cond, _&&_}
 use Prim.Native.Nat.{ℕ, _+_, _-_, _*_, _/_, _%_, _≤_}
 use native.Mathlib.Omega.{arith}
-use borrow.Author.Tests.{le-leb}
-use lib.Dec.{leb}
+use borrow.Author.Tests.{le-leb, eqb-true}
+use lib.Dec.{leb, eqb, T}
 use lib.ListN.{length, take, drop, length-append, length-take, length-drop}
 use Rattle.replay.specs.declared.Replay.{Replay}
 use Rattle.replay.specs.declared.Ran.{Ran}
@@ -49,3 +49,19 @@ held-more n q bytes r h z w =
 -- a part of an area has no more than what follows its start
 pub part-most : (l : List ℕ) (a k : ℕ) → length (take k (drop a l)) ≤ length l - a
 part-most l a k = omega (arith, length-take k (drop a l), length-drop a l)
+
+-- no more bytes are replayed than were read
+pub cond-most : (failed : Bool) (got : ℕ) → cond failed (got / 512 * 512) got ≤ got
+cond-most true got = omega arith
+cond-most false got = omega arith
+
+pub read-most : (bytes : List ℕ) (p : Replay) (r : Piece) → Replayed bytes p r → r .read ≤ 16384
+read-most bytes p r w = omega (arith, w .read, cond-most (r .failed) (r .got), w .most)
+
+-- where the input goes on, the piece is full
+and-full : (written : Bool) (n : ℕ) → (written && eqb n 16384) ≡ true → n ≡ 16384
+and-full true n e = eqb-true n 16384 e
+and-full false n e = absurd (subst T (sym e) tt)
+
+pub read-full : (bytes : List ℕ) (p : Replay) (r : Piece) → Replayed bytes p r → r .more ≡ true → r .read ≡ 16384
+read-full bytes p r w t = and-full (r .written) (r .read) (sym (w .more) ∙ t)

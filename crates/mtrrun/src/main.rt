@@ -1,6 +1,7 @@
 // Replays the journal on standard input and prints a line for each record.
 ghost use mathlib.Core.Path.{_≡_};
-ghost use Prim.Native.Nat.{_≤_};
+ghost use mathlib.Core.Bool.{true, cond};
+ghost use Prim.Native.Nat.{_*_, _/_, _≤_, _<_};
 ghost use lib.ListN.{length, take};
 ghost use Rattle.mtrrun.specs.Inner.{Replayed, Held};
 use libc::STDERR_FILENO;
@@ -19,11 +20,15 @@ struct Filled {
     failed: bool,
 }
 
-// The replay after a piece, how many bytes of the piece were replayed, and whether the input goes on.
+// The replay after a piece, how many bytes of the piece were replayed, and whether the input goes on. Then what that comes from: how many
+// bytes were read, whether the last read failed, and whether all the lines were written.
 struct Piece {
     replay: Replay,
     read: usize,
     more: bool,
+    got: usize,
+    failed: bool,
+    written: bool,
 }
 
 // The replay after the whole input, and how many bytes of it were replayed.
@@ -32,9 +37,10 @@ struct Done {
     read: u64,
 }
 
-// Reads until the area is full, the input ends or a read fails.
+// Reads until the area is full, the input ends or a read fails: then the area is not full.
 fn fill(input: &mut [u8]) -> Filled
     ensures { λ r. ⌜ r .got ≤ length (now (input .exit)) ⌝ }
+    ensures { λ r. ⌜ (r .failed ≡ true → r .got < length (now (input .exit))) ⌝ }
 {
     let mut at: usize = 0;
     while at < input.len() {
@@ -56,7 +62,7 @@ fn fill(input: &mut [u8]) -> Filled
 
 // The bytes that are replayed: after a read that failed the whole blocks alone, since what would have followed is not known.
 fn replayed(got: usize, failed: bool) -> usize
-    ensures { λ r. ⌜ r ≤ got ⌝ }
+    ensures { λ r. ⌜ r ≡ cond failed (got / 512 * 512) got ⌝ }
 {
     if failed {
         got / replay::BLOCK * replay::BLOCK
@@ -99,6 +105,9 @@ fn run_some(replay: Replay, input: &mut [u8], output: &mut [u8]) -> Piece
         replay: after,
         read: read,
         more: written && read == INPUT,
+        got: filled.got,
+        failed: filled.failed,
+        written: written,
     }
 }
 

@@ -1,9 +1,11 @@
--- `fill` is safe, ends and reads no more bytes than the area has. The loop's invariant: the area keeps its length, with `at` within it.
-use mathlib.Core.Path.{_≡_, refl, sym, _∙_}
+-- `fill` is safe, ends and reads no more bytes than the area has, fewer where a read fails. The loop's invariant: the area keeps its length,
+-- with `at` within it.
+use mathlib.Core.Path.{_≡_, refl, sym, subst, _∙_}
 use Prim.Native.Nat.{ℕ, _+_, _-_, _≤_, _<_}
 use native.Mathlib.Omega.{arith}
 use mathlib.Core.List.{List}
 use borrow.Rule.Slice.PartMut.{putMid, same-len-mid}
+use lib.Dec.{T}
 use lib.ListN.{length, take, drop}
 use borrow.Author.Needs.{needs}
 use Rattle.mtrrun.proofs.Pieces.{part-most}
@@ -78,7 +80,7 @@ same-length : tie.Need-same-length Inv-loop μ-loop
 same-length c = let e = read-at (c .before) in kept e ∙ turn e .before .loop .inv .1
 
 returns : tie.Need-returns Inv-loop μ-loop
-returns c = let e = read-at (c .before) in omega (arith, kept e, inside e)
+returns c = let e = read-at (c .before) in (omega (arith, kept e, inside e), (λ _. omega (arith, kept e, inside e)))
 
 add-at : tie.Need-add-at Inv-loop μ-loop
 add-at c =
@@ -99,7 +101,7 @@ same-length-2 : tie.Need-same-length-2 Inv-loop μ-loop
 same-length-2 c = c .before .loop .inv .1
 
 returns-2 : tie.Need-returns-2 Inv-loop μ-loop
-returns-2 c = c .before .loop .inv .0
+returns-2 c = (c .before .loop .inv .0, (λ t. absurd (subst T (sym t) tt)))
 
 pub fill-spec : {M : Type 1} → statement M
 fill-spec =

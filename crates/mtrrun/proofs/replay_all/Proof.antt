@@ -7,7 +7,7 @@ use native.Mathlib.Omega.{arith}
 use lib.ListN.{length, take}
 use borrow.Author.Needs.{needs}
 use Rattle.mtrrun.specs.Inner.{Replayed, Held}
-use Rattle.mtrrun.proofs.Pieces.{held-none, held-more}
+use Rattle.mtrrun.proofs.Pieces.{held-none, held-more, read-most, read-full}
 use Rattle.mtrrun.proofs.replay_all.Statement.{statement}
 use Rattle.mtrrun.proofs.replay_all.Tie as tie
 
@@ -28,7 +28,7 @@ module _ (c : tie.After-replay Inv-loop μ-loop) where
   turn = ran .before .before .before .before
 
   most : ran .run-some .result .read ≤ 16384
-  most = ran .run-some .ensures .most
+  most = read-most _ _ (ran .run-some .result) (ran .run-some .ensures)
 
 new-requires : tie.Need-new-requires Inv-loop μ-loop
 new-requires c κs = search needs
@@ -63,7 +63,7 @@ loop-again c =
       some .kept .1 .0 ∙ at .inv .0,
       some .kept .1 .1 .0 ∙ at .inv .1,
       held-more (at .read) (at .replay) _ (some .result) (at .inv .2) z (some .ensures),
-      (λ t. omega (arith, z, some .ensures .whole t)),
+      (λ t. omega (arith, z, read-full _ _ (some .result) (some .ensures) t)),
       omega (arith, most c, at .inv .4, e .loop-test .taken),
     )
 

@@ -1,17 +1,17 @@
--- `run_some` meets its contract: what was read is replayed, and both areas have room.
-use mathlib.Core.Path.{_≡_, sym, subst, _∙_}
+-- `run_some` meets its contract: what was read is replayed, or its whole blocks after a read that failed, and both areas have room.
+use mathlib.Core.Path.{_≡_, sym, ap, _∙_}
 use mathlib.Core.List.{List}
-use mathlib.Core.Bool.{Bool, true, false}
-use Prim.Native.Nat.{ℕ, _≤_}
+use mathlib.Core.Bool.{Bool, true, false, _&&_}
+use Prim.Native.Nat.{ℕ, _≤_, _<_}
 use native.Mathlib.Omega.{arith}
-use borrow.Author.Tests.{eqb-true}
-use lib.Dec.{T}
+use lib.Dec.{eqb}
 use lib.ListN.{length, take, length-take}
 use lib.Seq.{length-take-le}
 use Rattle.replay.specs.declared.Replay.{Replay}
+use Rattle.mtrrun.specs.declared.Filled.{Filled}
 use Rattle.mtrrun.specs.declared.Piece.{Piece}
 use Rattle.mtrrun.specs.Inner.{Replayed}
-use Rattle.mtrrun.proofs.Pieces.{run-left}
+use Rattle.mtrrun.proofs.Pieces.{run-left, cond-most}
 use borrow.Author.Needs.{needs}
 use Rattle.mtrrun.proofs.run_some.Statement.{statement}
 use Rattle.mtrrun.proofs.run_some.Tie as tie
@@ -27,6 +27,9 @@ module _ (c : tie.After-replayed) where
   abbrev area : List ℕ
   area = filled .fill .last .0
 
+  abbrev got : Filled
+  got = filled .fill .result
+
   abbrev read : ℕ
   read = c .replayed .result
 
@@ -34,27 +37,29 @@ module _ (c : tie.After-replayed) where
   long = filled .fill .kept .0 ∙ S .pre .0
 
   few : read ≤ length area
-  few = omega (arith, c .replayed .ensures, filled .fill .ensures)
+  few = omega (arith, c .replayed .ensures, cond-most (got .failed) (got .got), filled .fill .ensures .0)
 
-abbrev piece : Replay → ℕ → Bool → Piece
-piece q n more = record { replay = q; read = n; more = more }
+abbrev piece : Replay → ℕ → Bool → Filled → Bool → Piece
+piece q n more f written = record { replay = q; read = n; more = more; got = f .got; failed = f .failed; written = written }
 
 -- what was replayed
 module _ (c : tie.After-run) where
   abbrev at : tie.After-replayed
   at = c .before .before .before
 
-  told : (more : Bool) → (more ≡ true → read at ≡ 16384)
-      → Replayed (take (read at) (area at)) (S at .args .replay) (piece (c .run .result .replay) (read at) more)
-  told more w =
+  told : (more written : Bool) → more ≡ (written && eqb (read at) 16384)
+      → Replayed (take (read at) (area at)) (S at .args .replay) (piece (c .run .result .replay) (read at) more (got at) written)
+  told more written w =
       let size = length-take-le (read at) (area at) (few at) in
       record {
         size = size;
-        most = omega (arith, few at, long at);
+        read = at .replayed .ensures;
+        most = omega (arith, filled at .fill .ensures .0, long at);
+        short = (λ t. omega (arith, filled at .fill .ensures .1 t, long at));
         left =
             run-left (take (read at) (area at)) (S at .args .output .now) (S at .args .replay) (c .run .result)
             (omega (arith, size, few at, long at)) (S at .pre .1) (c .run .ensures .0);
-        whole = w;
+        more = w;
       }
 
 fill-requires : tie.Need-fill-requires
@@ -67,7 +72,7 @@ replayed-requires : tie.Need-replayed-requires
 replayed-requires c κs = search needs
 
 slice-reshare-prefix-run : tie.Need-slice-reshare-prefix-run
-slice-reshare-prefix-run c = search needs
+slice-reshare-prefix-run c = few c
 
 slice-aggregate-run : tie.Need-slice-aggregate-run
 slice-aggregate-run c = sym (length-take-le (read (c .before)) (area (c .before)) (few (c .before)))
@@ -98,7 +103,7 @@ same-length-2 c = search needs
 returns : tie.Need-returns
 returns c =
     let e = c .before .before .before .before .before .before .before in
-    told e _ (λ t. eqb-true (read (at e)) 16384 t)
+    told e _ _ (sym (ap (λ (b : Bool). b && eqb (read (at e)) 16384) (c .if1 .taken)))
 
 same-length-3 : tie.Need-same-length-3
 same-length-3 c = search needs
@@ -109,7 +114,7 @@ same-length-4 c = search needs
 returns-2 : tie.Need-returns-2
 returns-2 c =
     let e = c .before .before .before .before .before .before .before in
-    told e _ (λ t. absurd (subst T (sym t ∙ c .if1 .left) tt))
+    told e _ _ (c .if1 .left ∙ sym (ap (λ (b : Bool). b && eqb (read (at e)) 16384) (c .if1 .left)))
 
 pub run-some-spec : {M : Type 1} → statement M
 run-some-spec =
