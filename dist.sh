@@ -1,6 +1,6 @@
 #!/bin/sh
 # Fills a folder that a firmware project can vendor: the static library and its header, with files for pkg-config and CMake; the Rust crate;
-# mtrrun and journal for the bench; the example hosts; what was proved; VERSION, KIT and SHA256SUMS.
+# mtrrun, with its manual page, and journal for the bench; the example hosts; what was proved; VERSION, KIT and SHA256SUMS.
 #   ./dist.sh [--no-build] [FOLDER]     FOLDER is dist/ if none is given; an earlier one is replaced
 # --no-build takes what stands in target/ as it is instead of proving and building it. The revision is git's, or $REVISION if it is set.
 # After a failure FOLDER is as it was.
@@ -59,12 +59,17 @@ revision=${REVISION-$(git describe --always --dirty --abbrev=40)} || fail "no re
 [ -n "$revision" ] || fail "no revision: REVISION is empty"
 kit=$(rt version) || fail "no kit's id: rt version failed"
 
-# The gate's last line counts if the gate ended after the revision was made.
+# What the gate counted, if it saw the commit that stands here and nothing else; its second line says what it saw.
 gate="was not run for this tree"
 if [ -f target/gate.txt ]; then
-    made=$(git log -1 --format=%ct 2>/dev/null || echo 0)
-    ended=$(stat -c %Y target/gate.txt) || fail "no time of target/gate.txt"
-    [ "$ended" -lt "$made" ] || gate=$(tail -n 1 target/gate.txt)
+    tree=$(git describe --always --dirty --abbrev=40 --exclude '*' 2>/dev/null) || tree=unknown
+    case $tree in
+    '' | unknown | *-dirty) ;;
+    *)
+        saw=$(sed -n 2p target/gate.txt) || fail "can't read target/gate.txt"
+        [ "$saw" != "tree: $tree" ] || gate=$(sed -n 1p target/gate.txt)
+        ;;
+    esac
 fi
 
 mkdir -p "$(dirname "$folder")" || fail "can't make the folder above $folder"
@@ -76,9 +81,11 @@ trap 'exit 1' HUP INT TERM
 package='/^\[/ { tests = /dev-dependencies/ || /^\[\[(test|example|bench)\]\]/ } !tests'
 {
     chmod 755 "$new" &&
-        mkdir -p "$new/bin" "$new/lib/pkgconfig" "$new/lib/cmake/mtr" "$new/include" "$new/rust" "$new/examples/host/rust" &&
+        mkdir -p "$new/bin" "$new/share/man/man1" "$new/lib/pkgconfig" "$new/lib/cmake/mtr" &&
+        mkdir -p "$new/include" "$new/rust" "$new/examples/host/rust" &&
         cp "$archive" "$new/lib/libmtr.a" &&
         cp target/bin/mtrrun target/cargo/release/journal "$new/bin/" &&
+        cp docs/mtrrun.1 "$new/share/man/man1/mtrrun.1" &&
         cp include/mtr.h "$new/include/mtr.h" &&
         cp docs/RULE.md "$new/RULE.md" &&
         cp -R rust/mtr/build.rs rust/mtr/src "$new/rust/" &&
@@ -154,7 +161,7 @@ Commit $revision, $kit.
     include/mtr.h    its functions for C11 and C++11 or later: what each does, refuses and leaves unchanged; stack, interrupts, locking
     lib/pkgconfig/   for pkg-config; lib/cmake/: for CMake
     rust/            the crate \`mtr\`: the same with Rust types (no_std), and the declarations in its module raw
-    bin/mtrrun       replays a journal; bin/journal: journals as text, figures and pictures
+    bin/mtrrun       replays a journal (share/man/man1/mtrrun.1); bin/journal: journals as text, figures and pictures
     examples/host/   a controller's main loop, in C and in Rust
     RULE.md          the rule whole, in numbered sections
     PROVED.md        what was proved of it, by which theorem, and what is assumed

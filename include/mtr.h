@@ -732,7 +732,7 @@ MTR_MUST_USE static inline mtr_answer mtr_dispatch(mtr_scheduler *state,
  * mutual order are unchanged, and so are the groups.
  */
 MTR_MUST_USE static inline mtr_answer mtr_report(mtr_scheduler *state,
-    mtr_reason reason, uint64_t used)
+    uint64_t reason, uint64_t used)
 {
     const mtr_reply reply = mtr_by_value_report(*state, reason, used);
     if (reply.answer == MTR_ACCEPTED) {

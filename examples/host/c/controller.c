@@ -64,7 +64,7 @@ static mtr_answer make(mtr_scheduler *state, const mtr_record *r, mtr_run *run)
     case MTR_KIND_DISPATCH:
         return mtr_dispatch(state, run);
     case MTR_KIND_REPORT:
-        return mtr_report(state, (mtr_reason)r->reason, r->ticks);
+        return mtr_report(state, r->reason, r->ticks);
     default:
         return mtr_start(state, r->amount, r->ticks);
     }

@@ -59,9 +59,6 @@ pub const SECTIONS: [(&str, &str); 4] = [
 /// the function without `by_value_` takes its place.
 pub const BY_VALUE: &str = "mtr_by_value_";
 
-/// Parameters that are named numbers, and the type of these in C.
-pub const TYPED: [(&str, &str); 1] = [("reason", "mtr_reason")];
-
 /// The prefix of an answer other than 0.
 pub const REFUSED: &str = "REFUSED_";
 

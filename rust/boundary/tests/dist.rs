@@ -60,6 +60,7 @@ fn contents() {
         "lib/pkgconfig/mtr.pc",
         "rust/Cargo.toml",
         "rust/build.rs",
+        "share/man/man1/mtrrun.1",
     ];
     let found = files(&folder);
     let (sources, others): (Vec<&String>, Vec<&String>) =
@@ -75,6 +76,7 @@ fn contents() {
         ("include/mtr.h", "include/mtr.h"),
         ("target/staticlib/libabi.a", "lib/libmtr.a"),
         ("target/bin/mtrrun", "bin/mtrrun"),
+        ("docs/mtrrun.1", "share/man/man1/mtrrun.1"),
         ("rust/mtr/src/raw.rs", "rust/src/raw.rs"),
         (
             "examples/host/c/controller.c",

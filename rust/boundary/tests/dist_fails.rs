@@ -2,7 +2,7 @@
 
 mod common;
 
-use common::{dist, files, folder, printed, run, said};
+use common::{dist, files, folder, has, printed, run, said};
 use std::fs;
 use std::path::{Path, PathBuf};
 use std::process::Command;
@@ -26,7 +26,7 @@ const FOLDERS: [&str; 8] = [
     "rust/mtr/src",
 ];
 
-const FILES: [&str; 7] = [
+const FILES: [&str; 8] = [
     "dist.sh",
     "include/mtr.h",
     "rust/mtr/build.rs",
@@ -34,6 +34,7 @@ const FILES: [&str; 7] = [
     "examples/host/rust/Cargo.toml",
     "docs/PROOFS.md",
     "docs/RULE.md",
+    "docs/mtrrun.1",
 ];
 
 impl Repository {
@@ -147,21 +148,65 @@ fn the_manifest() {
     repository.refuses("has no version");
 }
 
-/// The gate's last line, unless the gate ended before the commit.
+/// What the gate counted, if it saw the commit that stands there and no change to its files.
 #[test]
 fn the_gate() {
     let repository = Repository::whole("dist-gate");
     let gate = repository.root.join("target/gate.txt");
+    let wrote = |tree: &str| fs::write(&gate, format!("5 passed, 0 failed\n{tree}")).unwrap();
     let told = |text: &str| {
         repository.fill();
         let page = repository.filled("PROVED.md");
         assert!(page.contains(&format!("| gate | {text} |\n")), "{page}");
     };
-    told("was not run for this tree");
-    fs::write(&gate, "a line\n5 passed, 0 failed\n").unwrap();
-    told("5 passed, 0 failed");
-    printed(Command::new("touch").args(["-d", "@1"]).arg(&gate));
-    told("was not run for this tree");
+    let (run, not) = ("5 passed, 0 failed", "was not run for this tree");
+
+    // Where git says nothing, it was not run for the tree, whatever stands there.
+    fs::write(repository.root.join(".git"), "no repository").unwrap();
+    told(not);
+    for tree in ["", "tree: \n", "tree: unknown\n"] {
+        wrote(tree);
+        told(not);
+    }
+    fs::remove_file(repository.root.join(".git")).unwrap();
+
+    if !has("git") {
+        return;
+    }
+    let git = |words: &[&str]| {
+        let mut git = Command::new("git");
+        git.env("GIT_CONFIG_GLOBAL", "/dev/null");
+        git.args(["-c", "user.name=a", "-c", "user.email=a@b", "-C"]);
+        printed(git.arg(&repository.root).args(words))
+    };
+    git(&["init", "--quiet"]);
+    fs::write(repository.root.join(".gitignore"), "target/\n").unwrap();
+    git(&["add", "."]);
+    git(&["commit", "--quiet", "-m", "a"]);
+    let commit = git(&["rev-parse", "HEAD"]);
+    told(not);
+    wrote(&format!("tree: {commit}"));
+    told(run);
+    // A tag changes nothing; a change does, and so does a gate that saw one.
+    git(&["tag", "-a", "1.0", "-m", "a"]);
+    told(run);
+    let header = repository.root.join("include/mtr.h");
+    let held = fs::read(&header).unwrap();
+    fs::write(&header, [&held[..], b"\n"].concat()).unwrap();
+    told(not);
+    wrote(&format!("tree: {}-dirty\n", commit.trim()));
+    told(not);
+    fs::write(&header, held).unwrap();
+    told(not);
+    wrote("tree: unknown\n");
+    told(not);
+    fs::write(&gate, "5 passed, 0 failed\n").unwrap();
+    told(not);
+    // The same files in a later commit are not what the gate saw.
+    wrote(&format!("tree: {commit}"));
+    told(run);
+    git(&["commit", "--quiet", "--allow-empty", "-m", "b"]);
+    told(not);
 }
 
 #[test]

@@ -79,6 +79,10 @@ static void calls(void)
     dispatch(MTR_ACCEPTED, run_of(5, 20000, 0));
     dispatch(MTR_REFUSED_BUSY, run_of(77, 77, 77));
     CHANGED(MTR_REFUSED_OVER_SLICE, report, MTR_REASON_TICK, 20001);
+    CHANGED(MTR_REFUSED_REASON, report, 4, 12000);
+    /* Cut to 32 bits this would be a tick. */
+    CHANGED(MTR_REFUSED_REASON, report, UINT64_C(1) << 32, 12000);
+    HOLD(MTR_REFUSED_REASON == 14);
     CHANGED(MTR_ACCEPTED, report, MTR_REASON_BLOCK, 12000);
     dispatch(MTR_ACCEPTED, run_of(7, 10000, 1));
     CHANGED(MTR_REFUSED_THREAD_RUNNING, remove, 7);

@@ -1,9 +1,11 @@
 //! How the program `mtrrun` ends: it never fails silently. One line on standard error says that the input could not be read, the output not
 //! be written, or that an argument was given; the language has no exit status, so that is 0.
 
-use check::program::root;
+use check::program::{printed, root};
 use std::fs::File;
-use std::io::{Read, Write};
+use std::io::Write;
+use std::os::fd::OwnedFd;
+use std::os::unix::net::UnixStream;
 use std::process::{Command, Output, Stdio};
 
 fn mtrrun() -> Command {
@@ -26,52 +28,37 @@ fn input_that_cannot_be_read() {
     assert!(output.stdout.is_empty());
 }
 
-/// What was read before a read that fails is replayed, whole blocks alone: the second half of a socket pair is reset in the middle of a
-/// block.
+/// What was read before a read that fails is replayed, whole blocks alone. The input is a socket whose reads don't wait: once its bytes are
+/// taken the next read fails, since the other end is open and sends no more.
 #[test]
 fn read_that_fails_in_the_middle() {
-    use std::net::{TcpListener, TcpStream};
-    use std::os::fd::OwnedFd;
-
-    let listener = TcpListener::bind("127.0.0.1:0").unwrap();
-    let mut host = TcpStream::connect(listener.local_addr().unwrap()).unwrap();
-    let (end, _) = listener.accept().unwrap();
-    let mut program = mtrrun()
-        .stdin(Stdio::from(OwnedFd::from(end.try_clone().unwrap())))
-        .stdout(Stdio::piped())
-        .stderr(Stdio::piped())
-        .spawn()
-        .unwrap();
-    // What the program sends to the host is not read there, so that closing the host's end resets the connection.
-    (&end).write_all(b"unread").unwrap();
-    drop(end);
-    let mut journal = listing();
-    journal.extend([7; 100]);
-    host.write_all(&journal).unwrap();
-    std::thread::sleep(std::time::Duration::from_millis(500));
-    drop(host);
-    let (mut printed, mut message) = (Vec::new(), String::new());
-    program
-        .stdout
-        .take()
-        .unwrap()
-        .read_to_end(&mut printed)
-        .unwrap();
-    program
-        .stderr
-        .take()
-        .unwrap()
-        .read_to_string(&mut message)
-        .unwrap();
-    assert!(program.wait().unwrap().success());
-    assert_eq!(
-        message,
-        "mtrrun: standard input: Connection reset by peer\n"
-    );
-    assert_eq!(
-        printed,
-        std::fs::read(root().join("crates/mtrrun/stdout")).unwrap()
-    );
+    let listing = listing();
+    let shown = std::fs::read(root().join("crates/mtrrun/stdout")).unwrap();
+    let run = |input: &[u8]| {
+        let (mut host, end) = UnixStream::pair().unwrap();
+        host.write_all(input).unwrap();
+        end.set_nonblocking(true).unwrap();
+        let output = mtrrun().stdin(OwnedFd::from(end)).output().unwrap();
+        drop(host);
+        let unread = "mtrrun: standard input: Resource temporarily unavailable\n";
+        assert_eq!(said(&output), unread);
+        output.stdout
+    };
+    // Nothing, a part of a block, whole blocks alone, and with a part of the next.
+    assert!(run(&[]).is_empty() && run(&listing[..511]).is_empty());
+    assert_eq!(run(&listing), shown);
+    for part in [1, 100, 511] {
+        assert_eq!(run(&[&listing[..], &vec![7; part]].concat()), shown);
+    }
+    // The program reads 32 blocks at a time. Blocks after the first are refused here, each with a line of its own.
+    for blocks in [31, 32, 33, 70] {
+        let whole = listing.repeat(blocks);
+        let replayed = printed(&whole, &[whole.len()]);
+        let refused = format!("block {} 19\n", blocks - 1);
+        assert!(replayed.starts_with(&shown) && replayed.ends_with(refused.as_bytes()));
+        assert_eq!(run(&whole), replayed);
+        assert_eq!(run(&[&whole[..], &listing[..300]].concat()), replayed);
+    }
 }
 
 #[test]

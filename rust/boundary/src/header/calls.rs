@@ -3,7 +3,6 @@
 
 use super::{boxed, declared, described, folded, listed, slice};
 use crate::interface::{c_name, Field, Form, Function, Interface, Pass, Struct};
-use crate::names::TYPED;
 use crate::ANSWER;
 
 /// What a dispatch decides. It is no struct of the library's.
@@ -86,11 +85,8 @@ pub fn print(interface: &Interface, f: &Function, name: &str) -> String {
 /// A parameter as C has it, and what goes to the export for it.
 fn taken(name: &str, pass: &Pass, stores: bool) -> (String, String) {
     match pass {
-        Pass::Value(Form::Number(number)) => {
-            let typed = TYPED.iter().find(|t| t.0 == name);
-            let of = typed.map_or(number.c, |t| t.1);
-            (format!("{of} {name}"), name.to_string())
-        }
+        // As wide as the export takes it: an enum of C would cut a greater number.
+        Pass::Value(Form::Number(number)) => (format!("{} {name}", number.c), name.to_string()),
         Pass::Value(form) => {
             let constant = match name == "state" && stores {
                 true => "",
