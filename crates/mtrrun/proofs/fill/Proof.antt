@@ -1,5 +1,5 @@
--- `fill` is safe, ends and reads no more bytes than the area has, fewer where a read fails. The loop's invariant: the area keeps its length,
--- with `at` within it.
+-- `fill` is safe, ends and reads no more bytes than the area has, fewer where a read fails. The loop's invariant: the area keeps its
+-- length, with `at` within it.
 use mathlib.Core.Path.{_≡_, refl, sym, subst, _∙_}
 use Prim.Native.Nat.{ℕ, _+_, _-_, _≤_, _<_}
 use native.Mathlib.Omega.{arith}
