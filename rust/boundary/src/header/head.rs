@@ -74,7 +74,8 @@ const HEAD: &str = r#"/*
  * functions below add less than 160 bytes with gcc and clang. Instructions are
  * those within the library, in the dearest accepted case that was measured: 64
  * threads in 16 groups, a full block. The copies of the state that the functions
- * below make come on top. Both are measured on this version's code.
+ * below make come on top. Both are measured on this version's code; counts of
+ * instructions differ by up to 24 from one run to another.
  *
  *     call                 stack    instructions
  *     @TABLE@
