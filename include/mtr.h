@@ -1,5 +1,5 @@
 /*
- * The move-to-rear list scheduler (MTR-LS), version 1.1.0, for C11 and C++11 or
+ * The move-to-rear list scheduler (MTR-LS), version 2.0.0, for C11 and C++11 or
  * later on x86-64.
  *
  * Written from the Rattle sources; do not edit. To renew it:
@@ -124,18 +124,18 @@ extern "C" {
 MTR_STRUCT(size_t, 8, 8);
 
 /* The version as text. */
-#define MTR_VERSION_TEXT "1.1.0"
+#define MTR_VERSION_TEXT "2.0.0"
 
 /* The version; mtr_version answers that of the library. */
 
 /* Major. */
-#define MTR_VERSION_MAJOR 1
+#define MTR_VERSION_MAJOR 2
 /* Minor. */
-#define MTR_VERSION_MINOR 1
+#define MTR_VERSION_MINOR 0
 /* Patch. */
 #define MTR_VERSION_PATCH 0
 /* One number: 10000 times the major, 100 times the minor, and the patch. */
-#define MTR_VERSION 10100
+#define MTR_VERSION 20000
 
 /* Numbers of threads and groups, and the parts of a block. */
 
@@ -168,7 +168,7 @@ MTR_STRUCT(size_t, 8, 8);
 /* From this meter on a dispatch is refused. */
 #define MTR_METER_LIMIT UINT64_C(10000000000000)
 /* The greatest meter of a sound state. */
-#define MTR_METER_MOST UINT64_C(10000001000000)
+#define MTR_METER_MOST UINT64_C(10000001000999)
 /* The lowest priority. */
 #define MTR_LOWEST_PRIORITY UINT64_C(1)
 /* The highest priority. */
@@ -282,7 +282,7 @@ typedef enum mtr_kind MTR_UNSIGNED {
     MTR_KIND_DISPATCH = 6,
     /* Reports the running thread: reason, ticks (used). */
     MTR_KIND_REPORT = 7,
-    /* Starts anew: amount (m), ticks (P). */
+    /* Starts anew: amount (m), ticks (P), overrun (O). */
     MTR_KIND_START = 8
 } mtr_kind;
 
@@ -346,7 +346,7 @@ typedef struct mtr_thread {
     uint64_t anchor;
     uint64_t ticks;
     uint64_t since;
-    uint32_t allotment;
+    int32_t allotment;
     uint16_t reservation;
     uint8_t group;
     uint8_t status;
@@ -373,16 +373,19 @@ MTR_FIELD(mtr_group, parent, 2, 1);
 MTR_FIELD(mtr_group, opened, 3, 1);
 
 /*
- * The settings: m, the ticks per thousandth of the virtual time quantum, and P,
- * the preemption interval in ticks.
+ * The settings: P, the preemption interval in ticks; m, the ticks per
+ * thousandth of the virtual time quantum; and O, the ticks that a report may
+ * use beyond its slice.
  */
 typedef struct mtr_settings {
-    uint32_t thousandth;
     uint32_t interval;
+    uint16_t thousandth;
+    uint16_t overrun;
 } mtr_settings;
 MTR_STRUCT(mtr_settings, 8, 4);
-MTR_FIELD(mtr_settings, thousandth, 0, 4);
-MTR_FIELD(mtr_settings, interval, 4, 4);
+MTR_FIELD(mtr_settings, interval, 0, 4);
+MTR_FIELD(mtr_settings, thousandth, 4, 2);
+MTR_FIELD(mtr_settings, overrun, 6, 2);
 
 /*
  * The list is the first `count` entries of `order`, front first. running: the
@@ -451,11 +454,11 @@ MTR_FIELD(mtr_total, thousandths, 4, 4);
 
 /* A thread's lag. answer: 0, or the refusal, with a lag of 0. */
 typedef struct mtr_lag_line {
-    uint32_t answer;
+    uint64_t answer;
     int64_t lag;
 } mtr_lag_line;
 MTR_STRUCT(mtr_lag_line, 16, 8);
-MTR_FIELD(mtr_lag_line, answer, 0, 4);
+MTR_FIELD(mtr_lag_line, answer, 0, 8);
 MTR_FIELD(mtr_lag_line, lag, 8, 8);
 
 /* A thread's achieved share. answer: 0, or the refusal, with a share of 0. */
@@ -471,7 +474,7 @@ MTR_FIELD(mtr_share_line, share, 4, 4);
 typedef struct mtr_entry {
     uint32_t number;
     uint32_t state;
-    uint32_t allotment;
+    int32_t allotment;
     uint32_t share;
     int64_t lag;
 } mtr_entry;
@@ -492,6 +495,7 @@ typedef struct mtr_record {
     uint8_t group;
     uint8_t reason;
     uint16_t amount;
+    uint16_t overrun;
     uint32_t ticks;
 } mtr_record;
 MTR_STRUCT(mtr_record, 12, 4);
@@ -500,6 +504,7 @@ MTR_FIELD(mtr_record, subject, 1, 1);
 MTR_FIELD(mtr_record, group, 2, 1);
 MTR_FIELD(mtr_record, reason, 3, 1);
 MTR_FIELD(mtr_record, amount, 4, 2);
+MTR_FIELD(mtr_record, overrun, 6, 2);
 MTR_FIELD(mtr_record, ticks, 8, 4);
 
 /* The records for a block. How many of them are written is told beside it. */
@@ -538,7 +543,8 @@ typedef struct mtr_run {
  * What the library exports, for the functions below alone: the state goes by
  * value, and one that is not stored back is lost.
  */
-mtr_reply mtr_by_value_start(uint64_t thousandth, uint64_t interval);
+mtr_reply mtr_by_value_start(uint64_t thousandth, uint64_t interval,
+    uint64_t overrun);
 mtr_reply mtr_by_value_open(mtr_scheduler state, uint64_t number,
     uint64_t parent, uint64_t ceiling);
 mtr_reply mtr_by_value_close(mtr_scheduler state, uint64_t number);
@@ -565,18 +571,19 @@ mtr_found mtr_by_value_read_block(const uint8_t *area, size_t area_len,
 
 /*
  * A fresh scheduler: no threads, group 0 open with ceiling 1000, the meter 0.
- * `thousandth` is m, the ticks per thousandth of the virtual time quantum, and
- * `interval` is P, the preemption interval in ticks.
+ * `thousandth` is m, the ticks per thousandth of the virtual time quantum,
+ * `interval` is P, the preemption interval in ticks, and `overrun` is O, the
+ * ticks that a report may use beyond its slice.
  *
  * Refuses, the first that applies:
- *   1 MTR_REFUSED_SETTINGS: m is outside 1 to 1000 or P outside 1 to
- *       1000000
+ *   1 MTR_REFUSED_SETTINGS: m is outside 1 to 1000, P outside 1 to 1000000
+ *       or O not below m
  * *state is then unchanged. Accepted, the fresh scheduler is stored to it.
  */
 MTR_MUST_USE static inline mtr_answer mtr_start(mtr_scheduler *state,
-    uint64_t thousandth, uint64_t interval)
+    uint64_t thousandth, uint64_t interval, uint64_t overrun)
 {
-    const mtr_reply reply = mtr_by_value_start(thousandth, interval);
+    const mtr_reply reply = mtr_by_value_start(thousandth, interval, overrun);
     if (reply.answer == MTR_ACCEPTED) {
         *state = reply.state;
     }
@@ -719,16 +726,19 @@ MTR_MUST_USE static inline mtr_answer mtr_dispatch(mtr_scheduler *state,
 }
 
 /*
- * Charges the running thread the ticks used and ends its run. An allotment that
- * reaches 0 is made full and the thread moves to the rear. Reasons: 0 tick, the
- * thread stays runnable; 1 block; 2 yield, which fills the allotment and moves
- * to the rear; 3 exit, which frees the thread's number and reservation.
+ * Charges the running thread the ticks used and ends its run. Up to O ticks may
+ * be used beyond the slice: an overrun, as of a timer that fires late. If 0 or
+ * less is left of the allotment, the thread's quantum is added to it once, so
+ * that a debt is kept, and the thread moves to the rear. Reasons: 0 tick, the
+ * thread stays runnable; 1 block; 2 yield, which moves to the rear and, where
+ * something is left, fills the allotment; 3 exit, which frees the thread's
+ * number and reservation.
  *
  * Refuses, the first that applies:
  *   16 MTR_REFUSED_UNSOUND: the state is not sound
  *   11 MTR_REFUSED_NOTHING_RUNNING: nothing is running
  *   14 MTR_REFUSED_REASON: the reason is above 3
- *   13 MTR_REFUSED_OVER_SLICE: more is used than the slice
+ *   13 MTR_REFUSED_OVER_SLICE: more is used than the slice and O
  * The state is then unchanged. Accepted, every other thread and the others'
  * mutual order are unchanged, and so are the groups.
  */

@@ -54,13 +54,14 @@ fn handed(done: Answered) -> Reply
 }
 
 // A fresh scheduler: no threads, group 0 open with ceiling 1000, the meter 0. `thousandth` is m, the ticks per thousandth of the virtual
-// time quantum, and `interval` is P, the preemption interval in ticks. Refused: 1, m is outside 1 to 1000 or P outside 1 to 1000000. The
-// state is then all zeros, on which every call answers 16. It takes no state, so that any other is unchanged.
+// time quantum, `interval` is P, the preemption interval in ticks, and `overrun` is O, the ticks that a report may use beyond its slice.
+// Refused: 1, m is outside 1 to 1000, P outside 1 to 1000000 or O not below m. The state is then all zeros, on which every call answers 16.
+// It takes no state, so that any other is unchanged.
 #[no_mangle]
-pub extern "C" fn mtr_by_value_start(thousandth: u64, interval: u64) -> Reply
-    ensures { λ r. ⌜ r ≡ replyOut (startReply thousandth interval) ⌝ }
+pub extern "C" fn mtr_by_value_start(thousandth: u64, interval: u64, overrun: u64) -> Reply
+    ensures { λ r. ⌜ r ≡ replyOut (startReply thousandth interval overrun) ⌝ }
 {
-    handed(Scheduler::start(thousandth, interval))
+    handed(Scheduler::start(thousandth, interval, overrun))
 }
 
 // Opens a group below an open parent of a lower number, with a ceiling in thousandths. Refused: 16, the state is not sound; 2, the parent
@@ -133,11 +134,12 @@ pub extern "C" fn mtr_by_value_dispatch(state: Scheduler) -> Reply
     handed(state.dispatch())
 }
 
-// Charges the running thread the ticks used and ends its run. An allotment that reaches 0 is made full and the thread moves to the rear.
-// Reasons: 0 tick, the thread stays runnable; 1 block; 2 yield, which fills the allotment and moves to the rear; 3 exit, which frees the
-// thread's number and reservation. Refused: 16, the state is not sound; 11, nothing is running; 14, the reason is above 3; 13, more is used
-// than the slice. The state is then unchanged. Accepted, every other thread and the others' mutual order are unchanged, and so are the
-// groups.
+// Charges the running thread the ticks used and ends its run. Up to O ticks may be used beyond the slice: an overrun, as of a timer that
+// fires late. If 0 or less is left of the allotment, the thread's quantum is added to it once, so that a debt is kept, and the thread moves
+// to the rear. Reasons: 0 tick, the thread stays runnable; 1 block; 2 yield, which moves to the rear and, where something is left, fills
+// the allotment; 3 exit, which frees the thread's number and reservation. Refused: 16, the state is not sound; 11, nothing is running; 14,
+// the reason is above 3; 13, more is used than the slice and O. The state is then unchanged. Accepted, every other thread and the others'
+// mutual order are unchanged, and so are the groups.
 #[no_mangle]
 pub extern "C" fn mtr_by_value_report(state: Scheduler, reason: u64, used: u64) -> Reply
     ensures { λ r. ⌜ r ≡ replyOut (step (report reason used) state) ⌝ }

@@ -12,7 +12,7 @@ ghost use Rattle.abi.specs.Figures.{lagOut, shareOut};
 // A thread's lag. answer: 0, or the refusal, with a lag of 0.
 #[repr(C)]
 pub struct LagLine {
-    pub answer: u32,
+    pub answer: u64,
     pub lag: i64,
 }
 
@@ -31,7 +31,7 @@ pub extern "C" fn mtr_by_value_lag(state: Scheduler, number: u64) -> LagLine
 {
     match accounts::figures::lag(state, number) {
         Lag::Value(v) => LagLine { answer: 0, lag: v },
-        Lag::Refused(k) => LagLine { answer: k, lag: 0 },
+        Lag::Refused(k) => LagLine { answer: k as u64, lag: 0 },
     }
 }
 

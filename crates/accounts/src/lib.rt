@@ -20,7 +20,7 @@ pub enum Share {
 pub struct Entry {
     pub number: u32,
     pub state: u32,
-    pub allotment: u32,
+    pub allotment: i32,
     pub share: u32,
     pub lag: i64,
 }

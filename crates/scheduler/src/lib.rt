@@ -8,33 +8,43 @@ pub mod refusal;
 pub mod sound;
 pub mod threads;
 
-// The settings: m, the ticks per thousandth of the virtual time quantum, and P, the preemption interval in ticks.
+// The settings: P, the preemption interval in ticks; m, the ticks per thousandth of the virtual time quantum; and O, the ticks that a report
+// may use beyond its slice.
 #[repr(C)]
 pub struct Settings {
-    pub thousandth: u32,
     pub interval: u32,
+    pub thousandth: u16,
+    pub overrun: u16,
 }
 
 impl Settings {
-    pub const THOUSANDTH: u32 = 100;
+    pub const THOUSANDTH: u16 = 100;
 
     pub const INTERVAL: u32 = 20000;
 
-    pub const THOUSANDTH_LEAST: u32 = 1;
+    pub const OVERRUN: u16 = 0;
 
-    pub const THOUSANDTH_MOST: u32 = 1000;
+    pub const THOUSANDTH_LEAST: u16 = 1;
+
+    pub const THOUSANDTH_MOST: u16 = 1000;
 
     pub const INTERVAL_LEAST: u32 = 1;
 
     pub const INTERVAL_MOST: u32 = 1000000;
+
+    pub const OVERRUN_LEAST: u16 = 0;
+
+    // The most for the greatest m; of other settings it is m - 1.
+    pub const OVERRUN_MOST: u16 = 999;
 
     // The default settings.
     pub fn new() -> Self
         ensures { λ r. ⌜ r ≡ defaultSettings ⌝ }
     {
         Self {
-            thousandth: Self::THOUSANDTH,
             interval: Self::INTERVAL,
+            thousandth: Self::THOUSANDTH,
+            overrun: Self::OVERRUN,
         }
     }
 }
@@ -47,7 +57,7 @@ pub struct Thread {
     pub anchor: u64,
     pub ticks: u64,
     pub since: u64,
-    pub allotment: u32,
+    pub allotment: i32,
     pub reservation: u16,
     pub group: u8,
     pub status: u8,
@@ -85,7 +95,7 @@ impl Scheduler {
 
     pub const METER_LIMIT: u64 = 10000000000000;
 
-    pub const METER_MOST: u64 = 10000001000000;
+    pub const METER_MOST: u64 = 10000001000999;
 }
 
 // What a call answers. `numbersOf` sets out its numbers for each case.

@@ -32,13 +32,13 @@ macro_rules! layout {
 // The version; mtr_version answers that of the library.
 
 /// Major.
-pub const VERSION_MAJOR: u32 = 1;
+pub const VERSION_MAJOR: u32 = 2;
 /// Minor.
-pub const VERSION_MINOR: u32 = 1;
+pub const VERSION_MINOR: u32 = 0;
 /// Patch.
 pub const VERSION_PATCH: u32 = 0;
 /// One number: 10000 times the major, 100 times the minor, and the patch.
-pub const VERSION: u32 = 10100;
+pub const VERSION: u32 = 20000;
 
 // Numbers of threads and groups, and the parts of a block.
 
@@ -71,7 +71,7 @@ pub const MOST_INTERVAL: u32 = 1000000;
 /// From this meter on a dispatch is refused.
 pub const METER_LIMIT: u64 = 10000000000000;
 /// The greatest meter of a sound state.
-pub const METER_MOST: u64 = 10000001000000;
+pub const METER_MOST: u64 = 10000001000999;
 /// The lowest priority.
 pub const LOWEST_PRIORITY: u64 = 1;
 /// The highest priority.
@@ -174,7 +174,7 @@ pub const KIND_WAKE: u8 = 5;
 pub const KIND_DISPATCH: u8 = 6;
 /// Reports the running thread: reason, ticks (used).
 pub const KIND_REPORT: u8 = 7;
-/// Starts anew: amount (m), ticks (P).
+/// Starts anew: amount (m), ticks (P), overrun (O).
 pub const KIND_START: u8 = 8;
 
 /// What an answer says, in words.
@@ -221,7 +221,7 @@ pub struct Thread {
     pub anchor: u64,
     pub ticks: u64,
     pub since: u64,
-    pub allotment: u32,
+    pub allotment: i32,
     pub reservation: u16,
     pub group: u8,
     pub status: u8,
@@ -255,19 +255,22 @@ layout! {
     opened = 3, 1;
 }
 
-/// The settings: m, the ticks per thousandth of the virtual time quantum, and
-/// P, the preemption interval in ticks.
+/// The settings: P, the preemption interval in ticks; m, the ticks per
+/// thousandth of the virtual time quantum; and O, the ticks that a report may
+/// use beyond its slice.
 #[repr(C)]
 #[derive(Clone, Copy, Debug, PartialEq, Eq)]
 pub struct Settings {
-    pub thousandth: u32,
     pub interval: u32,
+    pub thousandth: u16,
+    pub overrun: u16,
 }
 
 layout! {
     Settings = 8, 4;
-    thousandth = 0, 4;
-    interval = 4, 4;
+    interval = 0, 4;
+    thousandth = 4, 2;
+    overrun = 6, 2;
 }
 
 /// The list is the first `count` entries of `order`, front first. running: the
@@ -351,13 +354,13 @@ layout! {
 #[repr(C)]
 #[derive(Clone, Copy, Debug, PartialEq, Eq, Default)]
 pub struct LagLine {
-    pub answer: u32,
+    pub answer: u64,
     pub lag: i64,
 }
 
 layout! {
     LagLine = 16, 8;
-    answer = 0, 4;
+    answer = 0, 8;
     lag = 8, 8;
 }
 
@@ -381,7 +384,7 @@ layout! {
 pub struct Entry {
     pub number: u32,
     pub state: u32,
-    pub allotment: u32,
+    pub allotment: i32,
     pub share: u32,
     pub lag: i64,
 }
@@ -405,6 +408,7 @@ pub struct Record {
     pub group: u8,
     pub reason: u8,
     pub amount: u16,
+    pub overrun: u16,
     pub ticks: u32,
 }
 
@@ -415,6 +419,7 @@ layout! {
     group = 2, 1;
     reason = 3, 1;
     amount = 4, 2;
+    overrun = 6, 2;
     ticks = 8, 4;
 }
 
@@ -453,15 +458,16 @@ layout! {
 unsafe extern "C" {
     /// A fresh scheduler: no threads, group 0 open with ceiling 1000, the meter
     /// 0. `thousandth` is m, the ticks per thousandth of the virtual time
-    /// quantum, and `interval` is P, the preemption interval in ticks.
+    /// quantum, `interval` is P, the preemption interval in ticks, and
+    /// `overrun` is O, the ticks that a report may use beyond its slice.
     ///
     /// Refuses, the first that applies:
-    /// - 1 [`REFUSED_SETTINGS`]: m is outside 1 to 1000 or P outside 1 to
-    ///   1000000
+    /// - 1 [`REFUSED_SETTINGS`]: m is outside 1 to 1000, P outside 1 to 1000000
+    ///   or O not below m
     ///
     /// The state is then all zeros, on which every call answers 16. It takes no
     /// state, so that any other is unchanged.
-    pub safe fn mtr_by_value_start(thousandth: u64, interval: u64) -> Reply;
+    pub safe fn mtr_by_value_start(thousandth: u64, interval: u64, overrun: u64) -> Reply;
 
     /// Opens a group below an open parent of a lower number, with a ceiling in
     /// thousandths.
@@ -549,17 +555,19 @@ unsafe extern "C" {
     /// thread changes, and nothing if idle.
     pub safe fn mtr_by_value_dispatch(state: Scheduler) -> Reply;
 
-    /// Charges the running thread the ticks used and ends its run. An allotment
-    /// that reaches 0 is made full and the thread moves to the rear. Reasons: 0
-    /// tick, the thread stays runnable; 1 block; 2 yield, which fills the
-    /// allotment and moves to the rear; 3 exit, which frees the thread's number
-    /// and reservation.
+    /// Charges the running thread the ticks used and ends its run. Up to O
+    /// ticks may be used beyond the slice: an overrun, as of a timer that fires
+    /// late. If 0 or less is left of the allotment, the thread's quantum is
+    /// added to it once, so that a debt is kept, and the thread moves to the
+    /// rear. Reasons: 0 tick, the thread stays runnable; 1 block; 2 yield,
+    /// which moves to the rear and, where something is left, fills the
+    /// allotment; 3 exit, which frees the thread's number and reservation.
     ///
     /// Refuses, the first that applies:
     /// - 16 [`REFUSED_UNSOUND`]: the state is not sound
     /// - 11 [`REFUSED_NOTHING_RUNNING`]: nothing is running
     /// - 14 [`REFUSED_REASON`]: the reason is above 3
-    /// - 13 [`REFUSED_OVER_SLICE`]: more is used than the slice
+    /// - 13 [`REFUSED_OVER_SLICE`]: more is used than the slice and O
     ///
     /// The state is then unchanged. Accepted, every other thread and the
     /// others' mutual order are unchanged, and so are the groups.
