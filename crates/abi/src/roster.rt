@@ -31,7 +31,10 @@ pub extern "C" fn mtr_by_value_lag(state: Scheduler, number: u64) -> LagLine
 {
     match accounts::figures::lag(state, number) {
         Lag::Value(v) => LagLine { answer: 0, lag: v },
-        Lag::Refused(k) => LagLine { answer: k as u64, lag: 0 },
+        Lag::Refused(k) => LagLine {
+            answer: k as u64,
+            lag: 0,
+        },
     }
 }
 

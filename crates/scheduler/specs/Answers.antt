@@ -23,10 +23,10 @@ answerTo c s = cond (eqb (refusal c s) 0) (acceptedAnswer c s) (Refused (refusal
 unfoldable pub answeredTo : Call → Scheduler → Answered
 answeredTo c s = record { answer = answerTo c s; state = (step c s) .state }
 
-unfoldable pub startAnswered : ℕ → ℕ → Answered
-startAnswered m p = record {
-  answer = cond (eqb (startRefusal m p) 0) Accepted (Refused (startRefusal m p));
-  state = (startReply m p) .state;
+unfoldable pub startAnswered : ℕ → ℕ → ℕ → Answered
+startAnswered m p o = record {
+  answer = cond (eqb (startRefusal m p o) 0) Accepted (Refused (startRefusal m p o));
+  state = (startReply m p o) .state;
 }
 
 -- answer, thread, slice, threads before it

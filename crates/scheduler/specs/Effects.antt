@@ -3,7 +3,9 @@ use Prim.Native.Nat.{ℕ, _+_, _-_}
 use mathlib.Core.List.{List, _∷_, _++_}
 use mathlib.Core.Bool.{Bool, cond, _||_}
 use lib.ListN.{drop, set, replicate}
-use lib.Dec.{leb, eqb}
+use lib.Dec.{eqb}
+use lib.IntN.{ℤ, pos, _+ℤ_, _-ℤ_}
+use lib.Signed.{leZ}
 use Rattle.base.specs.Lists.{without, first, passed}
 use Rattle.scheduler.specs.declared.Thread.{Thread}
 use Rattle.scheduler.specs.declared.Scheduler.{Scheduler}
@@ -33,7 +35,7 @@ newThread s g f = record {
   anchor = s .meter;
   ticks = 0;
   since = 0;
-  allotment = quantum s f;
+  allotment = pos (quantum s f);
   reservation = f;
   group = g;
   status = 1;
@@ -52,9 +54,23 @@ wokenThread s t = record {
   status = 1;
 }
 
--- RULE 2.6, 2.7: whether the allotment is made full and the thread moves to the rear: at a yield, or if nothing is left
+-- RULE 2.5: what a charge leaves of the allotment; a debt is below 0
+unfoldable pub left : ℕ → Thread → ℤ
+left used t = t .allotment -ℤ pos used
+
+unfoldable pub usedUp : ℕ → Thread → Bool
+usedUp used t = leZ (left used t) (pos 0)
+
+-- RULE 2.6, 2.7: whether the allotment is renewed and the thread moves to the rear: at a yield, or if nothing is left
 unfoldable pub renewed : ℕ → ℕ → Thread → Bool
-renewed reason used t = eqb reason 2 || leb (t .allotment) used
+renewed reason used t = eqb reason 2 || usedUp used t
+
+-- RULE 2.6, 2.7: the quantum is added once to nothing or a debt; a yield with something left fills the allotment
+unfoldable pub allotmentAfter : Scheduler → ℕ → ℕ → Thread → ℤ
+allotmentAfter s reason used t =
+    cond (usedUp used t) (left used t +ℤ pos (quantum s (t .reservation)))
+    (cond (eqb reason 2) (pos (quantum s (t .reservation)))
+    (left used t))
 
 -- RULE 2.5: the running thread after the charge. Reasons: 0 tick, 1 block, 2 yield, which sets the anchor after the charge.
 unfoldable pub chargedThread : Scheduler → ℕ → ℕ → Thread → Thread
@@ -63,7 +79,7 @@ chargedThread s reason used t = record {
   anchor = cond (eqb reason 2) (s .meter + used) (t .anchor);
   ticks = t .ticks + used;
   since = cond (eqb reason 2) 0 (t .since + used);
-  allotment = cond (renewed reason used t) (quantum s (t .reservation)) (t .allotment - used);
+  allotment = allotmentAfter s reason used t;
   reservation = t .reservation;
   group = t .group;
   status = cond (eqb reason 1) 2 1;
@@ -99,11 +115,12 @@ effect dispatch s = withRun s (chosen s) (s .meter)
 effect (report reason used) s = reported (s .running) reason used s
 
 -- RULE 6.6: the state of an accepted start
-unfoldable pub started : ℕ → ℕ → Scheduler
-started m p =
+unfoldable pub started : ℕ → ℕ → ℕ → Scheduler
+started m p o =
     stateOf (replicate 64 noThread) (replicate 64 0) (record { ceiling = 1000; parent = 0; opened = 1 } ∷ replicate 15 noGroup) 0
-    (record { thousandth = m; interval = p }) 0 64
+    (record { interval = p; thousandth = m; overrun = o }) 0 64
 
 -- and what a refused one hands out: all zeros
 unfoldable pub unstarted : Scheduler
-unstarted = stateOf (replicate 64 noThread) (replicate 64 0) (replicate 16 noGroup) 0 (record { thousandth = 0; interval = 0 }) 0 0
+unstarted =
+    stateOf (replicate 64 noThread) (replicate 64 0) (replicate 16 noGroup) 0 (record { interval = 0; thousandth = 0; overrun = 0 }) 0 0

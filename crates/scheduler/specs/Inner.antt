@@ -1,5 +1,5 @@
 -- What private functions require and return, each over just what is handed to it. Nothing of the rule rests on it.
-use Prim.Native.Nat.{ℕ, _≤_, _<_}
+use Prim.Native.Nat.{ℕ, _*_, _≤_, _<_}
 use mathlib.Core.Path.{_≡_}
 use mathlib.Core.List.{List}
 use mathlib.Core.Bool.{Bool, true, false, not, _&&_, _||_}
@@ -9,7 +9,7 @@ use Rattle.base.specs.Lists.{member, distinct, everyOf, everyBelow}
 use Rattle.scheduler.specs.declared.Thread.{Thread}
 use Rattle.scheduler.specs.declared.Group.{Group}
 use Rattle.scheduler.specs.declared.Scheduler.{Scheduler}
-use Rattle.scheduler.specs.State.{reservedAt, runnableAt, openAt, listed}
+use Rattle.scheduler.specs.State.{natOf, reservedAt, runnableAt, openAt, listed, meterMost, chargeMost}
 use Rattle.scheduler.specs.Sound.{quotaOk, accountOk, threadOk, reservedIn, sound}
 
 -- the state s with these parts in place of its own
@@ -19,7 +19,7 @@ given s threads groups m meter running = record {
   order = s .order;
   groups = groups;
   meter = meter;
-  settings = record { thousandth = m; interval = s .settings .interval };
+  settings = record { interval = s .settings .interval; thousandth = m; overrun = s .settings .overrun };
   count = s .count;
   running = running;
 }
@@ -30,6 +30,16 @@ having s groups = given s (s .threads) groups (s .settings .thousandth) (s .mete
 -- the numbers of an admitted thread: its reservation and allotment, its account, its group
 abbrev pub boundsOk : ℕ → ℕ → Thread → Bool
 boundsOk m meter t = quotaOk m t && (accountOk meter t && ltb (t .group) 16)
+
+-- what the charge of a report requires of m, of the ticks used and of the thread
+pub record Chargeable (m used : ℕ) (t : Thread) : Type 0 where
+  pub thousandth : m ≤ 1000
+  pub short : used ≤ chargeMost
+  pub ticks : t .ticks ≤ meterMost
+  pub since : t .since ≤ meterMost
+  pub reservation : t .reservation ≤ 1000
+  pub some : 1 ≤ natOf (t .allotment)
+  pub bounded : natOf (t .allotment) ≤ t .reservation * m
 
 -- an array of flags marks the numbers that stand in the list
 abbrev pub Marks : List Bool → List ℕ → Type 0

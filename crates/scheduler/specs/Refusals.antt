@@ -7,8 +7,8 @@ use lib.Dec.{ltb, leb, eqb}
 use Rattle.base.specs.Checks.{within, Check, _⇒_, firstOf}
 use Rattle.base.specs.Lists.{everyBelow}
 use Rattle.scheduler.specs.declared.Scheduler.{Scheduler}
-use Rattle.scheduler.specs.State.{groupAt, admittedAt, blockedAt, openAt, sliceAt, meterLimit, sliceMost}
-use Rattle.scheduler.specs.Sound.{threadIn, childOf, load, sound}
+use Rattle.scheduler.specs.State.{groupAt, admittedAt, blockedAt, openAt, usedMost, meterLimit}
+use Rattle.scheduler.specs.Sound.{settingsOk, threadIn, childOf, load, sound}
 
 -- The seven calls of a stretch. Start makes a state of its own.
 pub data Call : Type 0 where
@@ -50,7 +50,7 @@ checks dispatch s = (not (eqb (s .running) 64) ⇒ 12) ∷ (leb meterLimit (s .m
 checks (report reason used) s =
     (eqb (s .running) 64 ⇒ 11)
     ∷ (ltb 3 reason ⇒ 14)
-    ∷ (ltb (sliceAt s (s .running)) used ⇒ 13)
+    ∷ (ltb (usedMost s (s .running)) used ⇒ 13)
     ∷ []
 
 -- the refusal's number, or 0
@@ -58,5 +58,5 @@ unfoldable pub refusal : Call → Scheduler → ℕ
 refusal c s = firstOf ((not (sound s) ⇒ 16) ∷ checks c s)
 
 -- RULE 6.6
-unfoldable pub startRefusal : ℕ → ℕ → ℕ
-startRefusal m p = firstOf ((not (within 1 1000 m) || not (within 1 sliceMost p) ⇒ 1) ∷ [])
+unfoldable pub startRefusal : ℕ → ℕ → ℕ → ℕ
+startRefusal m p o = firstOf ((not (settingsOk (record { interval = p; thousandth = m; overrun = o })) ⇒ 1) ∷ [])

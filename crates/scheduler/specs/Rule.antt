@@ -41,5 +41,5 @@ unfoldable pub step : Call → Scheduler → Reply
 step c s = cond (eqb (refusal c s) 0) (accept c s) (refuse (refusal c s) s)
 
 -- Start takes no state.
-unfoldable pub startReply : ℕ → ℕ → Reply
-startReply m p = cond (eqb (startRefusal m p) 0) (refuse 0 (started m p)) (refuse (startRefusal m p) unstarted)
+unfoldable pub startReply : ℕ → ℕ → ℕ → Reply
+startReply m p o = cond (eqb (startRefusal m p o) 0) (refuse 0 (started m p o)) (refuse (startRefusal m p o) unstarted)

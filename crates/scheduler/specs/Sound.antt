@@ -10,11 +10,11 @@ use Rattle.scheduler.specs.declared.Settings.{Settings}
 use Rattle.scheduler.specs.declared.Thread.{Thread}
 use Rattle.scheduler.specs.declared.Scheduler.{Scheduler}
 use Rattle.scheduler.specs.State.{threadAt, groupAt, admittedAt, runnableAt, reservedAt, reservationAt, openAt, listed}
-use Rattle.scheduler.specs.State.{meterLimit, meterMost, sliceMost}
+use Rattle.scheduler.specs.State.{natOf, meterLimit, meterMost, sliceMost}
 
 -- RULE 5.1, 1
 unfoldable pub settingsOk : Settings → Bool
-settingsOk k = within 1 1000 (k .thousandth) && within 1 sliceMost (k .interval)
+settingsOk k = within 1 1000 (k .thousandth) && within 1 sliceMost (k .interval) && ltb (k .overrun) (k .thousandth)
 
 -- thread n counts in group g; group c is a child of group g
 unfoldable pub threadIn : Scheduler → ℕ → ℕ → Bool
@@ -47,7 +47,7 @@ groupsOk s = openAt s 0 && eqb ((groupAt s 0) .ceiling) 1000 && everyBelow (grou
 
 -- RULE 5.1, 4 and 8: a thread's own numbers, reservation and allotment, and its account against the meter
 abbrev pub quotaOk : ℕ → Thread → Bool
-quotaOk m t = within 1 1000 (t .reservation) && within 1 (t .reservation * m) (t .allotment)
+quotaOk m t = within 1 1000 (t .reservation) && within 1 (t .reservation * m) (natOf (t .allotment))
 
 abbrev pub accountOk : ℕ → Thread → Bool
 accountOk meter t =

@@ -1,10 +1,11 @@
 -- RULE 1.5: the state, read by thread and group number, and written by thread, group, list and run. m is `thousandth`, P is `interval`,
--- f is `reservation`.
-use Prim.Native.Nat.{ℕ, _*_, min}
+-- O is `overrun`, f is `reservation`.
+use Prim.Native.Nat.{ℕ, _+_, _*_, min}
 use mathlib.Core.List.{List}
 use mathlib.Core.Bool.{Bool, _&&_}
 use lib.ListN.{getD, take, set}
 use lib.Dec.{ltb, eqb}
+use lib.IntN.{ℤ, pos, negsuc}
 use Rattle.scheduler.specs.declared.Settings.{Settings}
 use Rattle.scheduler.specs.declared.Thread.{Thread}
 use Rattle.scheduler.specs.declared.Group.{Group}
@@ -12,21 +13,25 @@ use Rattle.scheduler.specs.declared.Scheduler.{Scheduler}
 
 -- RULE 1.4
 abbrev pub defaultSettings : Settings
-defaultSettings = record { thousandth = 100; interval = 20000 }
+defaultSettings = record { interval = 20000; thousandth = 100; overrun = 0 }
 
--- the meter from which on no dispatch is accepted, and the greatest meter; the greatest interval, and so the greatest slice
+-- the meter from which on no dispatch is accepted, and the greatest meter; the greatest interval, and so the greatest slice; the greatest
+-- charge of a report
 abbrev pub meterLimit : ℕ
 meterLimit = 10000000000000
 
 abbrev pub meterMost : ℕ
-meterMost = 10000001000000
+meterMost = 10000001000999
 
 abbrev pub sliceMost : ℕ
 sliceMost = 1000000
 
+abbrev pub chargeMost : ℕ
+chargeMost = 1000999
+
 -- RULE 1.6: a freed entry is all zeros.
 abbrev pub noThread : Thread
-noThread = record { admission = 0; anchor = 0; ticks = 0; since = 0; allotment = 0; reservation = 0; group = 0; status = 0 }
+noThread = record { admission = 0; anchor = 0; ticks = 0; since = 0; allotment = pos 0; reservation = 0; group = 0; status = 0 }
 
 abbrev pub noGroup : Group
 noGroup = record { ceiling = 0; parent = 0; opened = 0 }
@@ -69,8 +74,14 @@ reservedAt s n = isReserved (threadAt s n)
 unfoldable pub reservationAt : Scheduler → ℕ → ℕ
 reservationAt s n = (threadAt s n) .reservation
 
+-- a signed number from 0 up as a number, and 0 for one below
+unfoldable pub natOf : ℤ → ℕ
+natOf (pos n) = n
+natOf (negsuc n) = 0
+
+-- RULE 2.1: a debt reads as 0
 unfoldable pub allotmentAt : Scheduler → ℕ → ℕ
-allotmentAt s n = (threadAt s n) .allotment
+allotmentAt s n = natOf ((threadAt s n) .allotment)
 
 unfoldable pub openAt : Scheduler → ℕ → Bool
 openAt s n = ltb n 16 && isOpen (groupAt s n)
@@ -86,6 +97,10 @@ listed s = take (s .count) (s .order)
 -- RULE 2.4: the smaller of its allotment and P
 unfoldable pub sliceAt : Scheduler → ℕ → ℕ
 sliceAt s n = min (allotmentAt s n) (s .settings .interval)
+
+-- RULE 2.5: the most that a report may use
+unfoldable pub usedMost : Scheduler → ℕ → ℕ
+usedMost s n = sliceAt s n + s .settings .overrun
 
 -- the state with these fields
 abbrev pub stateOf : List Thread → List ℕ → List Group → ℕ → Settings → ℕ → ℕ → Scheduler

@@ -5,7 +5,7 @@ use mathlib.Core.List.{List, [], _∷_}
 use mathlib.Core.Bool.{Bool, true, not, cond, _&&_, _||_}
 use lib.Dec.{T, eqb}
 use Rattle.scheduler.specs.declared.Scheduler.{Scheduler}
-use Rattle.scheduler.specs.State.{runnableAt, reservedAt, reservationAt}
+use Rattle.scheduler.specs.State.{runnableAt, reservedAt, reservationAt, sliceAt}
 use Rattle.scheduler.specs.Refusals.{Call, openGroup, closeGroup, admit, remove, wake, dispatch, report}
 use Rattle.scheduler.specs.Rule.{Reply, step, isDispatch}
 
@@ -37,14 +37,25 @@ ticksOf (wake n) = 0
 ticksOf dispatch = 0
 ticksOf (report r u) = u
 
+-- RULE 2.5: the ticks of a report beyond the slice of the thread that ran; of another call 0
+unfoldable pub overrunOf : Event → ℕ
+overrunOf e = ticksOf (e .call) - sliceAt (e .given) (e .given .running)
+
 -- RULE 9.3: the thread that a report's ticks count for, after one more event; at first the one that runs in the first state
 unfoldable pub named : ℕ → Event → ℕ
 named last e = cond (accepted e && isDispatch (e .call)) (e .reply .thread) last
 
--- the ticks of the accepted reports whose thread passes the test; `last` is the thread that a report counts for now
+-- what the accepted calls add up to, those whose thread passes the test; `last` is the thread that a report counts for now
+unfoldable pub sumIn : (Event → ℕ) → (ℕ → Bool) → ℕ → List Event → ℕ
+sumIn v p last [] = 0
+sumIn v p last (e ∷ es) = cond (accepted e && p last) (v e) 0 + sumIn v p (named last e) es
+
+-- the ticks of the accepted reports of those threads, and their overruns
 unfoldable pub ticksIn : (ℕ → Bool) → ℕ → List Event → ℕ
-ticksIn p last [] = 0
-ticksIn p last (e ∷ es) = cond (accepted e && p last) (ticksOf (e .call)) 0 + ticksIn p (named last e) es
+ticksIn p last es = sumIn (λ e. ticksOf (e .call)) p last es
+
+unfoldable pub overrunsIn : (ℕ → Bool) → ℕ → List Event → ℕ
+overrunsIn p last es = sumIn overrunOf p last es
 
 abbrev pub anyone : ℕ → Bool
 anyone n = true
@@ -55,6 +66,13 @@ allTicks last es = ticksIn anyone last es
 
 unfoldable pub ticksBy : ℕ → ℕ → List Event → ℕ
 ticksBy x last es = ticksIn (λ n. eqb n x) last es
+
+-- RULE 9.3: V, the overruns that count for others than x, and V2, those that count for y
+unfoldable pub overrunsBeside : ℕ → ℕ → List Event → ℕ
+overrunsBeside x last es = overrunsIn (λ n. not (eqb n x)) last es
+
+unfoldable pub overrunsBy : ℕ → ℕ → List Event → ℕ
+overrunsBy y last es = overrunsIn (λ n. eqb n y) last es
 
 -- every accepted call passes the test, which sees the thread that a report counts for
 unfoldable pub throughout : (ℕ → Call → Bool) → ℕ → List Event → Bool
@@ -96,8 +114,11 @@ Owed s cs x =
     ≤ 1000 * ticksBy x (s .running) (trace s cs)
     + 2 * reservationAt s x * (1000 - reservationAt s x) * s .settings .thousandth
     + reservationAt s x * s .settings .interval
+    + reservationAt s x * overrunsBeside x (s .running) (trace s cs)
 
 abbrev pub Second : Scheduler → List Call → ℕ → ℕ → Type 0
 Second s cs x y =
     reservationAt s x * ticksBy y (s .running) (trace s cs)
-    ≤ reservationAt s y * ticksBy x (s .running) (trace s cs) + 2 * reservationAt s x * reservationAt s y * s .settings .thousandth
+    ≤ reservationAt s y * ticksBy x (s .running) (trace s cs)
+    + 2 * reservationAt s x * reservationAt s y * s .settings .thousandth
+    + reservationAt s x * overrunsBy y (s .running) (trace s cs)

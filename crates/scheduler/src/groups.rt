@@ -81,7 +81,7 @@ impl Thread {
         self,
         accepted: bool,
         meter: u64,
-        thousandth: u32,
+        thousandth: u16,
         group: u64,
         reservation: u64,
     ) -> Self
@@ -95,7 +95,7 @@ impl Thread {
                 anchor: meter,
                 ticks: 0,
                 since: 0,
-                allotment: reservation as u32 * thousandth,
+                allotment: threads::quantum_of(reservation as u16, thousandth),
                 reservation: reservation as u16,
                 group: group as u8,
                 status: Self::RUNNABLE,

@@ -3,6 +3,7 @@
 ghost use mathlib.Core.Path.{_≡_};
 ghost use mathlib.Core.Bool.{not, _||_};
 ghost use mathlib.Core.List.{[], _∷_};
+ghost use Prim.Native.Nat.{_+_};
 ghost use lib.Dec.{ltb, leb, eqb};
 ghost use Rattle.base.specs.Checks.{_⇒_, firstOf};
 ghost use Rattle.scheduler.specs.State.{meterLimit};
@@ -12,7 +13,7 @@ use crate::Settings;
 use crate::Thread;
 use crate::threads;
 
-// m or P is outside its range.
+// m, P or O is outside its range.
 pub const SETTINGS: u32 = 1;
 
 // The group or parent is above 15 or not open, or group 0 is to be closed.
@@ -48,7 +49,7 @@ pub const NOTHING_RUNNING: u32 = 11;
 // A thread is running.
 pub const BUSY: u32 = 12;
 
-// More is used than the slice.
+// More is used than the slice and the overrun limit.
 pub const OVER_SLICE: u32 = 13;
 
 // The reason is above 3.
@@ -61,8 +62,8 @@ pub const METER_FULL: u32 = 15;
 pub const UNSOUND: u32 = 16;
 
 // The number that a start is refused with, or 0.
-pub(crate) fn start_code(thousandth: u64, interval: u64) -> u32
-    ensures { λ r. ⌜ r ≡ startRefusal thousandth interval ⌝ }
+pub(crate) fn start_code(thousandth: u64, interval: u64, overrun: u64) -> u32
+    ensures { λ r. ⌜ r ≡ startRefusal thousandth interval overrun ⌝ }
 {
     if thousandth < Settings::THOUSANDTH_LEAST as u64 {
         return SETTINGS;
@@ -74,6 +75,9 @@ pub(crate) fn start_code(thousandth: u64, interval: u64) -> u32
         return SETTINGS;
     }
     if (Settings::INTERVAL_MOST as u64) < interval {
+        return SETTINGS;
+    }
+    if thousandth <= overrun {
         return SETTINGS;
     }
     0
@@ -134,8 +138,15 @@ pub(crate) fn dispatch_code(ok: bool, running: u32, meter: u64) -> u32
 }
 
 // The number that a report is refused with, or 0.
-pub(crate) fn report_code(ok: bool, running: u32, reason: u64, slice: u32, used: u64) -> u32
-    ensures { λ r. ⌜ r ≡ firstOf ((not ok ⇒ 16) ∷ (eqb running 64 ⇒ 11) ∷ (ltb 3 reason ⇒ 14) ∷ (ltb slice used ⇒ 13) ∷ []) ⌝ }
+pub(crate) fn report_code(
+    ok: bool,
+    running: u32,
+    reason: u64,
+    slice: u32,
+    overrun: u16,
+    used: u64,
+) -> u32
+    ensures { λ r. ⌜ r ≡ firstOf ((not ok ⇒ 16) ∷ (eqb running 64 ⇒ 11) ∷ (ltb 3 reason ⇒ 14) ∷ (ltb (slice + overrun) used ⇒ 13) ∷ []) ⌝ }
 {
     if !ok {
         return UNSOUND;
@@ -146,7 +157,7 @@ pub(crate) fn report_code(ok: bool, running: u32, reason: u64, slice: u32, used:
     if threads::EXIT < reason {
         return REASON;
     }
-    if (slice as u64) < used {
+    if slice as u64 + (overrun as u64) < used {
         return OVER_SLICE;
     }
     0

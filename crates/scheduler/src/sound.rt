@@ -7,8 +7,7 @@ ghost use lib.ListN.{take};
 ghost use lib.Dec.{ltb, leb, eqb};
 ghost use Rattle.base.specs.Checks.{within};
 ghost use Rattle.scheduler.specs.declared.Scheduler.{Scheduler};
-ghost use Rattle.scheduler.specs.State.{listed};
-ghost use Rattle.scheduler.specs.State.{meterLimit, meterMost};
+ghost use Rattle.scheduler.specs.State.{natOf, listed, meterLimit, meterMost};
 ghost use Rattle.scheduler.specs.Sound.{settingsOk, accountOk, groupsOk, sound};
 ghost use Rattle.scheduler.specs.Inner.{given, having, boundsOk, Marks, ListSeen, Sums, Small, ThreadsPass, Tested};
 use crate::Group;
@@ -40,6 +39,7 @@ impl Settings {
         let p = self.interval;
         ((Self::THOUSANDTH_LEAST <= m) & (m <= Self::THOUSANDTH_MOST))
             & ((Self::INTERVAL_LEAST <= p) & (p <= Self::INTERVAL_MOST))
+            & (self.overrun < m)
     }
 }
 
@@ -53,9 +53,9 @@ fn meter_ok(meter: u64, running: u32) -> bool
 }
 
 // A reservation and its allotment.
-fn quota_ok(reservation: u32, allotment: u32, m: u32) -> bool
+fn quota_ok(reservation: u32, allotment: i32, m: u32) -> bool
     requires { ⌜ (reservation < 65536) × (m ≤ 1000) ⌝ }
-    ensures { λ r. ⌜ r ≡ (within 1 1000 reservation && within 1 (reservation * m) allotment) ⌝ }
+    ensures { λ r. ⌜ r ≡ (within 1 1000 reservation && within 1 (reservation * m) (natOf allotment)) ⌝ }
 {
     if Scheduler::WHOLE < reservation {
         return false;
@@ -64,7 +64,7 @@ fn quota_ok(reservation: u32, allotment: u32, m: u32) -> bool
         return false;
     }
     // No allotment fits a reservation of 0.
-    allotment <= reservation * m
+    allotment as u32 <= reservation * m
 }
 
 // A thread's account against the meter.
@@ -254,7 +254,14 @@ impl Scheduler {
         let seen = list.seen;
         let groups = self.groups;
         let threads = self.threads;
-        let pass = threads_pass(threads, groups, seen, settings.thousandth, meter, running);
+        let pass = threads_pass(
+            threads,
+            groups,
+            seen,
+            settings.thousandth as u32,
+            meter,
+            running,
+        );
         if !pass.ok {
             return failed();
         }

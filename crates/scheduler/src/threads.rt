@@ -6,13 +6,16 @@ ghost use mathlib.Core.Bool.{true, cond, _||_};
 ghost use mathlib.Core.List.{_++_};
 ghost use Prim.Native.Nat.{_+_, _-_, _*_, min, _≤_, _<_};
 ghost use lib.Dec.{eqb};
+ghost use lib.IntN.{pos, _+ℤ_, _-ℤ_};
+ghost use lib.Signed.{leZ, nonNeg};
 ghost use lib.ListN.{take, drop};
 ghost use Rattle.order.specs.Queue.{requeue};
-ghost use Rattle.scheduler.specs.State.{noThread, meterMost, sliceMost};
+ghost use Rattle.scheduler.specs.State.{natOf, noThread, meterMost, sliceMost, chargeMost};
 ghost use Rattle.scheduler.specs.Sound.{sound};
 ghost use Rattle.scheduler.specs.Refusals.{remove, wake, dispatch, report};
-ghost use Rattle.scheduler.specs.Effects.{renewed, chargedThread, wokenThread, unstarted};
+ghost use Rattle.scheduler.specs.Effects.{renewed, allotmentAfter, chargedThread, wokenThread, unstarted};
 ghost use Rattle.scheduler.specs.Answers.{answeredTo, startAnswered};
+ghost use Rattle.scheduler.specs.Inner.{Chargeable};
 use crate::Answer;
 use crate::Answered;
 use crate::Group;
@@ -32,10 +35,48 @@ pub const EXIT: u64 = 3;
 
 // The meter, or a thread's own count, after a report of the ticks used.
 fn charge(total: u64, used: u64) -> u64
-    requires { ⌜ (total ≤ meterMost) × (used ≤ sliceMost) ⌝ }
+    requires { ⌜ (total ≤ meterMost) × (used ≤ chargeMost) ⌝ }
     ensures { λ r. ⌜ r ≡ total + used ⌝ }
 {
     total + used
+}
+
+// A signed number from 0 up as a number, and 0 for one below.
+fn number_of(a: i32) -> u32
+    ensures { λ r. ⌜ r ≡ natOf a ⌝ }
+{
+    if a < 0 {
+        return 0;
+    }
+    a as u32
+}
+
+// The quantum of a reservation.
+pub(crate) fn quantum_of(reservation: u16, thousandth: u16) -> i32
+    requires { ⌜ (reservation ≤ 1000) × (thousandth ≤ 1000) ⌝ }
+    ensures { λ r. ⌜ r ≡ pos (reservation * thousandth) ⌝ }
+{
+    (reservation as u32 * thousandth as u32) as i32
+}
+
+// The allotment after a report. What is used up gets the quantum added once, so that a debt is kept; a yield fills what is left.
+fn allotment_after(allotment: i32, quantum: i32, reason: u64, used: i32) -> i32
+    requires { ⌜ (1 ≤ natOf allotment)
+        × (natOf allotment ≤ sliceMost)
+        × (1 ≤ natOf quantum)
+        × (natOf quantum ≤ sliceMost)
+        × (nonNeg used ≡ true)
+        × (natOf used ≤ chargeMost) ⌝ }
+    ensures { λ r. ⌜ r ≡ cond (leZ (allotment -ℤ used) (pos 0)) (allotment -ℤ used +ℤ quantum) (cond (eqb reason 2) quantum (allotment -ℤ used)) ⌝ }
+{
+    let left = allotment - used;
+    if left <= 0 {
+        return left + quantum;
+    }
+    if reason == YIELD {
+        return quantum;
+    }
+    left
 }
 
 // The answer of a call with a refusal's number, 0 for none.
@@ -87,13 +128,10 @@ impl Thread {
 
     // What it may run for at once.
     fn slice(self, interval: u32) -> u32
-        ensures { λ r. ⌜ r ≡ min (self .allotment) interval ⌝ }
+        ensures { λ r. ⌜ r ≡ min (natOf (self .allotment)) interval ⌝ }
     {
-        if self.allotment < interval {
-            self.allotment
-        } else {
-            interval
-        }
+        let left = number_of(self.allotment);
+        if left < interval { left } else { interval }
     }
 
     // The thread after a wake.
@@ -119,14 +157,14 @@ impl Thread {
         self
     }
 
-    // Whether a report fills the allotment.
+    // Whether a report renews the allotment.
     fn renewed(self, reason: u64, used: u64) -> bool
         ensures { λ r. ⌜ r ≡ renewed reason used self ⌝ }
     {
         if reason == YIELD {
             return true;
         }
-        self.allotment as u64 <= used
+        number_of(self.allotment) as u64 <= used
     }
 
     // Whether a report moves the thread to the rear. One that ends it takes it off the list from there.
@@ -140,22 +178,17 @@ impl Thread {
     }
 
     // The allotment after a report.
-    fn remaining(self, thousandth: u32, reason: u64, used: u64) -> u32
-        requires { ⌜ thousandth ≤ 1000 ⌝ }
-        ensures { λ r. ⌜ r ≡ cond (renewed reason used self) (self .reservation * thousandth) (self .allotment - used) ⌝ }
+    fn remaining(self, thousandth: u16, reason: u64, used: u64) -> i32
+        requires { ⌜ Chargeable thousandth used self ⌝ }
+        ensures { λ r. ⌜ ((s : Scheduler) → s .settings .thousandth ≡ thousandth → r ≡ allotmentAfter s reason used self) ⌝ }
     {
-        if self.renewed(reason, used) {
-            return self.reservation as u32 * thousandth;
-        }
-        self.allotment - used as u32
+        let quantum = quantum_of(self.reservation, thousandth);
+        allotment_after(self.allotment, quantum, reason, used as i32)
     }
 
     // The thread after a report that is accepted and leaves the meter at `meter`.
-    fn charged(mut self, meter: u64, thousandth: u32, reason: u64, used: u64) -> Self
-        requires { ⌜ (thousandth ≤ 1000)
-            × (used ≤ sliceMost)
-            × (self .ticks ≤ meterMost)
-            × (self .since ≤ meterMost) ⌝ }
+    fn charged(mut self, meter: u64, thousandth: u16, reason: u64, used: u64) -> Self
+        requires { ⌜ Chargeable thousandth used self ⌝ }
         ensures { λ r. ⌜ ((s : Scheduler) → s .meter + used ≡ meter → s .settings .thousandth ≡ thousandth
             → r ≡ cond (eqb reason 3) noThread (chargedThread s reason used self)) ⌝ }
     {
@@ -182,11 +215,8 @@ impl Thread {
     }
 
     // The thread after a report.
-    fn reported(self, accepted: bool, meter: u64, thousandth: u32, reason: u64, used: u64) -> Self
-        requires { ⌜ (accepted ≡ true → (thousandth ≤ 1000)
-            × (used ≤ sliceMost)
-            × (self .ticks ≤ meterMost)
-            × (self .since ≤ meterMost)) ⌝ }
+    fn reported(self, accepted: bool, meter: u64, thousandth: u16, reason: u64, used: u64) -> Self
+        requires { ⌜ (accepted ≡ true → Chargeable thousandth used self) ⌝ }
         ensures { λ r. ⌜ ((s : Scheduler) → (accepted ≡ true → s .meter + used ≡ meter) → s .settings .thousandth ≡ thousandth
             → r ≡ cond accepted (cond (eqb reason 3) noThread (chargedThread s reason used self)) self) ⌝ }
     {
@@ -199,7 +229,7 @@ impl Thread {
 
 // The meter after a report.
 fn meter_after(accepted: bool, meter: u64, used: u64) -> u64
-    requires { ⌜ (accepted ≡ true → (meter ≤ meterMost) × (used ≤ sliceMost)) ⌝ }
+    requires { ⌜ (accepted ≡ true → (meter ≤ meterMost) × (used ≤ chargeMost)) ⌝ }
     ensures { λ r. ⌜ r ≡ cond accepted (meter + used) meter ⌝ }
 {
     if accepted {
@@ -261,8 +291,9 @@ impl Scheduler {
             opened: 0,
         };
         let settings = Settings {
-            thousandth: 0,
             interval: 0,
+            thousandth: 0,
+            overrun: 0,
         };
         Self {
             threads: [thread; 64],
@@ -276,10 +307,10 @@ impl Scheduler {
     }
 
     // A state with these settings and no threads.
-    pub fn start(thousandth: u64, interval: u64) -> Answered
-        ensures { λ r. ⌜ r ≡ startAnswered thousandth interval ⌝ }
+    pub fn start(thousandth: u64, interval: u64, overrun: u64) -> Answered
+        ensures { λ r. ⌜ r ≡ startAnswered thousandth interval overrun ⌝ }
     {
-        let code = refusal::start_code(thousandth, interval);
+        let code = refusal::start_code(thousandth, interval, overrun);
         let mut answer = Answer::Refused(code);
         let mut state = Self::unstarted();
         if code == 0 {
@@ -289,8 +320,9 @@ impl Scheduler {
                 opened: 1,
             };
             let settings = Settings {
-                thousandth: thousandth as u32,
                 interval: interval as u32,
+                thousandth: thousandth as u16,
+                overrun: overrun as u16,
             };
             state.groups[0] = root;
             state.settings = settings;
@@ -412,7 +444,7 @@ impl Scheduler {
         let at = (running % Self::THREADS) as usize;
         let thread = self.threads[at];
         let slice = thread.slice(self.settings.interval);
-        let code = refusal::report_code(ok, running, reason, slice, used);
+        let code = refusal::report_code(ok, running, reason, slice, self.settings.overrun, used);
         let charges = code == 0;
         let count = self.count;
         let list = self.order;
