@@ -9,7 +9,7 @@ pub struct Entry {
     pub number: u32,
     /// 0 runnable, 1 blocked, 2 running.
     pub state: u32,
-    pub allotment: u32,
+    pub allotment: i32,
     pub share: u32,
     pub lag: i64,
 }

@@ -3,8 +3,8 @@
 use crate::rule::{Reply, Scheduler};
 
 #[inline(never)]
-pub fn start(m: u64, p: u64) -> Result<Scheduler, u32> {
-    Scheduler::start(m, p)
+pub fn start(m: u64, p: u64, o: u64) -> Result<Scheduler, u32> {
+    Scheduler::start(m, p, o)
 }
 
 #[inline(never)]

@@ -138,13 +138,13 @@ fn the_edges() {
     assert_eq!(s.admit(0, 0, 600), 0);
     assert_eq!(s.clone().admit(1, 0, 400), 0);
     assert_eq!(s.admit(1, 0, 401), 5);
-    assert!(Scheduler::start(100, 1_000_000).is_ok());
-    assert_eq!(Scheduler::start(100, 1_000_001), Err(1));
-    assert_eq!(Scheduler::start(100, 0), Err(1));
-    assert_eq!(Scheduler::start(0, 1), Err(1));
-    assert_eq!(Scheduler::start(1001, 1), Err(1));
-    assert_eq!(Scheduler::start((1 << 32) + 1, 1), Err(1));
-    assert!(Scheduler::start(1000, 1).is_ok());
+    assert!(Scheduler::start(100, 1_000_000, 0).is_ok());
+    assert_eq!(Scheduler::start(100, 1_000_001, 0), Err(1));
+    assert_eq!(Scheduler::start(100, 0, 0), Err(1));
+    assert_eq!(Scheduler::start(0, 1, 0), Err(1));
+    assert_eq!(Scheduler::start(1001, 1, 0), Err(1));
+    assert_eq!(Scheduler::start((1 << 32) + 1, 1, 0), Err(1));
+    assert!(Scheduler::start(1000, 1, 0).is_ok());
     let mut s = Scheduler::default();
     assert_eq!(s.admit(63, 0, 1), 0);
     assert_eq!(s.admit(64, 0, 1), 7);
@@ -178,16 +178,20 @@ fn the_layout() {
         64 * 40 + 64 + 16 * 4 + 8 + 8 + 4 + 4
     );
     assert_eq!(std::mem::size_of::<Entry>(), 24);
-    let s = Scheduler::start(7, 8).unwrap();
+    assert_eq!(std::mem::size_of::<Record>(), 12);
+    let s = Scheduler::start(7, 8, 0).unwrap();
     assert!(s.sound());
     assert_eq!(s.threads, [Thread::UNUSED; 64]);
     assert_eq!(s.order, [0; 64]);
     assert_eq!((s.meter, s.count, s.running), (0, 0, NONE));
-    assert_eq!(Scheduler::default(), Scheduler::start(100, 20_000).unwrap());
+    assert_eq!(
+        Scheduler::default(),
+        Scheduler::start(100, 20_000, 0).unwrap()
+    );
 }
 
 fn three() -> Scheduler {
-    let mut s = Scheduler::start(10, 50).unwrap();
+    let mut s = Scheduler::start(10, 50, 0).unwrap();
     for n in [3, 1, 2] {
         assert_eq!(s.admit(n, 0, 10), 0);
     }
@@ -372,17 +376,17 @@ fn block_forms() {
     assert_eq!(area, [7; 512]);
     // Each kind with each field set alone.
     let used = [
-        (0, [false; 5]),
-        (1, [true, true, false, true, false]),
-        (2, [true, false, false, false, false]),
-        (3, [true, true, false, true, false]),
-        (4, [true, false, false, false, false]),
-        (5, [true, false, false, false, false]),
-        (6, [false; 5]),
-        (7, [false, false, true, false, true]),
-        (8, [false, false, false, true, true]),
-        (9, [false; 5]),
-        (255, [false; 5]),
+        (0, [false; 6]),
+        (1, [true, true, false, true, false, false]),
+        (2, [true, false, false, false, false, false]),
+        (3, [true, true, false, true, false, false]),
+        (4, [true, false, false, false, false, false]),
+        (5, [true, false, false, false, false, false]),
+        (6, [false; 6]),
+        (7, [false, false, true, false, true, false]),
+        (8, [false, false, false, true, true, true]),
+        (9, [false; 6]),
+        (255, [false; 6]),
     ];
     for (kind, used) in used {
         for (field, fits) in used.into_iter().enumerate() {
@@ -395,7 +399,8 @@ fn block_forms() {
                 1 => rec.group = 255,
                 2 => rec.reason = 255,
                 3 => rec.amount = 65_535,
-                _ => rec.ticks = u32::MAX,
+                4 => rec.ticks = u32::MAX,
+                _ => rec.overrun = 65_535,
             }
             let answer = write_block(&mut area, 5, &[dispatch(), rec]);
             if fits {

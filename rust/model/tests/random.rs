@@ -11,7 +11,7 @@ use model::replay::{replay, replay_from, replay_from_with, replay_with};
 use model::rule::{Reply, Scheduler, METER_MAX, NONE};
 
 mod plain;
-use plain::{failing, plain_replay, plainly, plainly_sound};
+use plain::{failing, plain_replay, plainly, plainly_sound, slice};
 
 fn handed_over(s: Scheduler, call: Call) -> (Reply, Scheduler) {
     let (answer, s) = match call {
@@ -89,6 +89,7 @@ fn broken_states_are_unsound() {
             let (one, other) = (failing(&s, true), failing(&s, false));
             let fails = if one.len() < other.len() { one } else { other };
             let with: &[&str] = match name {
+                "m is 0" => &["O"],
                 "reservation is 0" => &["allotment 1", "allotment full"],
                 "reservation above 1000" | "ceiling above 1000" => &["room"],
                 _ => &[],
@@ -106,7 +107,7 @@ fn broken_states_are_unsound() {
         assert_eq!(names.len(), all);
     }
     // Every clause of `failing` occurs.
-    assert_eq!(broken.len(), 25, "{broken:?}");
+    assert_eq!(broken.len(), 26, "{broken:?}");
     let s = sound_state(&mut r);
     assert!(failing(&s, true).is_empty());
 }
@@ -233,8 +234,7 @@ fn sparing(r: &mut Rng, s: &Scheduler, call: Call, first: &[bool; 64]) -> Call {
             if s.running == NONE {
                 return Call::Dispatch;
             }
-            let t = &s.threads[s.running as usize];
-            let used = t.allotment.min(s.settings.interval) as u64;
+            let used = slice(s, s.running as usize) as u64;
             return Call::Report { reason: 0, used };
         }
         _ => {}
@@ -250,6 +250,9 @@ struct Stretch {
     second: [bool; 64],
     had: [i128; 64],
     w: i128,
+    /// Ticks beyond a slice: those that count for each thread, and their sum.
+    over: [i128; 64],
+    v: i128,
     checks: [u64; 2],
     nearest: i128,
 }
@@ -262,29 +265,36 @@ impl Stretch {
             second: start.threads.map(|t| t.status != 0),
             had: [0; 64],
             w: 0,
+            over: [0; 64],
+            v: 0,
             checks: [0; 2],
             nearest: i128::MAX,
         }
     }
 
-    /// Both inequalities after an accepted report of a thread.
-    fn report(&mut self, n: usize, reason: u64, used: u64) {
+    /// Both inequalities after an accepted report of a thread, some ticks of it
+    /// beyond the slice.
+    fn report(&mut self, n: usize, reason: u64, used: u64, over: i128) {
         let settings = &self.start.settings;
         let (m, p) = (settings.thousandth as i128, settings.interval as i128);
         let of = |a: usize| self.start.threads[a].reservation as i128;
         self.w += used as i128;
         self.had[n] += used as i128;
+        self.v += over;
+        self.over[n] += over;
         self.first[n] &= reason == 0;
         self.second[n] &= reason != 3;
         for a in (0..64).filter(|&a| self.first[a]) {
             let (f, g) = (of(a), of(n));
-            let slack = 1000 * self.had[a] + 2 * f * (1000 - f) * m + f * p - f * self.w;
+            let others = self.v - self.over[a];
+            let allowed = 2 * f * (1000 - f) * m + f * p + f * others;
+            let slack = 1000 * self.had[a] + allowed - f * self.w;
             assert!(slack >= 0, "first inequality, thread {a}");
             self.nearest = self.nearest.min(slack);
             self.checks[0] += 1;
             if self.second[n] {
                 assert!(
-                    f * self.had[n] <= g * self.had[a] + 2 * f * g * m,
+                    f * self.had[n] <= g * self.had[a] + 2 * f * g * m + f * self.over[n],
                     "second inequality, threads {a} and {n}"
                 );
                 self.checks[1] += 1;
@@ -311,6 +321,7 @@ fn share_guarantee() {
             if long {
                 c = sparing(&mut r, &s, c, &stretch.first);
             }
+            let before = s;
             let reply = apply(&mut s, c);
             if reply.answer != 0 {
                 continue;
@@ -321,7 +332,10 @@ fn share_guarantee() {
                     stretch.second[number as usize] = false;
                 }
                 Call::Dispatch => named = reply.thread,
-                Call::Report { reason, used } => stretch.report(named as usize, reason, used),
+                Call::Report { reason, used } => {
+                    let over = used as i128 - slice(&before, named as usize);
+                    stretch.report(named as usize, reason, used, over.max(0));
+                }
                 _ => {}
             }
         }

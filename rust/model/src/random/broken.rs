@@ -10,9 +10,10 @@ type Broken = Vec<(&'static str, Scheduler)>;
 /// For each condition of soundness a state in which it is broken and the
 /// others hold.
 ///
-/// Three cannot be broken alone and are given with what they entail: a
-/// reservation of 0 leaves no allowed allotment, and a reservation or ceiling
-/// above 1000 exceeds the ceiling of the group it stands in.
+/// Four cannot be broken alone and are given with what they entail: an m of 0
+/// leaves no allowed O, a reservation of 0 no allowed allotment, and a
+/// reservation or ceiling above 1000 exceeds the ceiling of the group it stands
+/// in.
 pub fn broken_states(r: &mut Rng) -> Vec<(&'static str, Scheduler)> {
     let mut out = Vec::new();
     settings(r, &mut out);
@@ -70,7 +71,7 @@ fn settings(r: &mut Rng, out: &mut Broken) {
     s.settings.thousandth = 0;
     out.push(("m is 0", s));
     let mut s = such(r, |_| true);
-    s.settings.thousandth = r.edgy(1001, u32::MAX as u64) as u32;
+    s.settings.thousandth = r.edgy(1001, u16::MAX as u64) as u16;
     out.push(("m above 1000", s));
     let mut s = such(r, |_| true);
     s.settings.interval = 0;
@@ -78,6 +79,12 @@ fn settings(r: &mut Rng, out: &mut Broken) {
     let mut s = such(r, |_| true);
     s.settings.interval = r.edgy(1_000_001, u32::MAX as u64) as u32;
     out.push(("P above 1000000", s));
+    let mut s = such(r, |_| true);
+    s.settings.overrun = s.settings.thousandth;
+    out.push(("O is m", s));
+    let mut s = such(r, |_| true);
+    s.settings.overrun = r.edgy(s.settings.thousandth as u64 + 1, u16::MAX as u64) as u16;
+    out.push(("O above m", s));
 }
 
 /// The meter.
@@ -243,7 +250,7 @@ fn threads(r: &mut Rng, out: &mut Broken) {
     let mut s = such(r, some);
     let n = r.pick(&admitted(&s));
     s.threads[n].reservation = 0;
-    s.threads[n].allotment = r.below(2) as u32;
+    s.threads[n].allotment = r.below(2) as i32;
     out.push(("reservation is 0", s));
     let mut s = such(r, some);
     let n = r.pick(&admitted(&s));
@@ -263,8 +270,16 @@ fn threads(r: &mut Rng, out: &mut Broken) {
     out.push(("allotment is 0", s));
     let mut s = such(r, some);
     let n = r.pick(&admitted(&s));
+    s.threads[n].allotment = r.edgy(0, i32::MAX as u64) as i32 - i32::MAX - 1;
+    out.push(("allotment below 0", s));
+    let mut s = such(r, |s| some(s) && s.settings.overrun > 0);
+    let n = r.pick(&admitted(&s));
+    s.threads[n].allotment = -(r.edgy(1, s.settings.overrun as u64) as i32);
+    out.push(("allotment a debt within O", s));
+    let mut s = such(r, some);
+    let n = r.pick(&admitted(&s));
     let quantum = s.threads[n].reservation as u64 * s.settings.thousandth as u64;
-    s.threads[n].allotment = r.edgy(quantum + 1, u32::MAX as u64) as u32;
+    s.threads[n].allotment = r.edgy(quantum + 1, i32::MAX as u64) as i32;
     out.push(("allotment above the quantum", s));
 }
 

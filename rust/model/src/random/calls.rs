@@ -83,9 +83,10 @@ pub fn call(r: &mut Rng, s: &Scheduler) -> Call {
 
 fn report_call(r: &mut Rng, s: &Scheduler) -> Call {
     let slice = match s.threads.get(s.running as usize) {
-        Some(t) => t.allotment.min(s.settings.interval) as u64,
+        Some(t) => t.slice(&s.settings) as u64,
         None => 1000,
     };
+    let most = slice + s.settings.overrun as u64;
     Call::Report {
         reason: match r.below(16) {
             0 => edge_value(r),
@@ -95,11 +96,14 @@ fn report_call(r: &mut Rng, s: &Scheduler) -> Call {
             5..=7 => 1,
             _ => 0,
         },
-        used: match r.below(12) {
+        used: match r.below(16) {
             0 => edge_value(r),
             1 => slice + 1,
             2 => 0,
-            3..=5 => r.edgy(0, slice),
+            3 => most,
+            4 => most + 1,
+            5 | 6 => r.edgy(slice, most),
+            7..=9 => r.edgy(0, slice),
             _ => slice,
         },
     }

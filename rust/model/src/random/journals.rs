@@ -11,6 +11,7 @@ pub fn any_record(r: &mut Rng) -> Record {
     let kind = r.range(1, 8) as u8;
     let (subject, group) = (edge_value(r) as u8, edge_value(r) as u8);
     let (amount, ticks) = (edge_value(r) as u16, edge_value(r) as u32);
+    let overrun = edge_value(r) as u16;
     let uses = fields(kind).unwrap_or_default();
     Record {
         kind,
@@ -18,6 +19,7 @@ pub fn any_record(r: &mut Rng) -> Record {
         group: if uses.group { group } else { 0 },
         reason: if uses.reason { edge_value(r) as u8 } else { 0 },
         amount: if uses.amount { amount } else { 0 },
+        overrun: if uses.overrun { overrun } else { 0 },
         ticks: if uses.ticks { ticks } else { 0 },
     }
 }
@@ -38,8 +40,20 @@ fn start_record(r: &mut Rng, extreme: bool) -> Record {
     Record {
         kind: kind::START,
         amount: m as u16,
+        overrun: overrun(r, m) as u16,
         ticks: p as u32,
         ..Record::default()
+    }
+}
+
+/// O of a start with m: mostly 1 to m − 1, at times 0, and rarely a bad one.
+fn overrun(r: &mut Rng, m: u64) -> u64 {
+    match r.below(16) {
+        0 => m,
+        1 => edge_value(r),
+        2..=5 => 0,
+        _ if m < 2 => 0,
+        _ => r.edgy(1, m - 1),
     }
 }
 
@@ -77,10 +91,14 @@ fn storm_call(r: &mut Rng, s: &Scheduler) -> Call {
     let Some(t) = s.threads.get(s.running as usize) else {
         return Call::Dispatch;
     };
-    let slice = t.allotment.min(s.settings.interval) as u64;
+    let slice = t.slice(&s.settings) as u64;
     Call::Report {
         reason: r.pick(&[1, 1, 1, 1, 1, 0, 2]),
-        used: r.edgy(0, slice),
+        used: if r.chance(1, 3) {
+            slice + r.edgy(0, s.settings.overrun as u64)
+        } else {
+            r.edgy(0, slice)
+        },
     }
 }
 
@@ -144,7 +162,7 @@ fn damage(r: &mut Rng, blocks: &mut Vec<[u8; BLOCK]>, tail: &mut Vec<u8>) {
     let i = r.below(blocks.len() as u64) as usize;
     let j = r.below(blocks.len() as u64) as usize;
     let place = r.below(512) as usize;
-    match r.below(16) {
+    match r.below(17) {
         // Doubled, missing, exchanged.
         3 => {
             let copy = blocks[i];
@@ -216,6 +234,12 @@ fn damage_block(r: &mut Rng, block: &mut [u8; BLOCK], way: u64, place: usize) {
         }
         14 if used < RECORDS => {
             block[r.range(14 + (RECORD * used) as u64, 509) as usize] = r.edgy(1, 255) as u8;
+            seal(block);
+        }
+        // Bytes 10 and 11 of a record, a start's or another's, under a right check.
+        15 if used > 0 => {
+            let at = 14 + RECORD * r.below(used as u64) as usize;
+            block[at + r.range(10, 11) as usize] = r.edgy(1, 255) as u8;
             seal(block);
         }
         _ => {

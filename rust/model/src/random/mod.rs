@@ -79,7 +79,7 @@ impl Rng {
 
 /// A value of any size with weight on values that matter somewhere.
 pub fn edge_value(r: &mut Rng) -> u64 {
-    const EDGES: [u64; 40] = [
+    const EDGES: [u64; 46] = [
         0,
         1,
         2,
@@ -97,6 +97,8 @@ pub fn edge_value(r: &mut Rng) -> u64 {
         63,
         64,
         65,
+        99,
+        100,
         127,
         128,
         255,
@@ -112,6 +114,10 @@ pub fn edge_value(r: &mut Rng) -> u64 {
         999_999,
         1_000_000,
         1_000_001,
+        1_000_999,
+        1_001_000,
+        i32::MAX as u64,
+        1 << 31,
         u32::MAX as u64,
         1 << 32,
         METER_LIMIT - 1,

@@ -12,7 +12,7 @@ fn any_thread(r: &mut Rng) -> Thread {
         anchor: r.bits(),
         ticks: r.bits(),
         since: r.bits(),
-        allotment: r.bits() as u32,
+        allotment: r.bits() as i32,
         reservation: r.bits() as u16,
         group: r.bits() as u8,
         status: r.bits() as u8,
@@ -54,7 +54,7 @@ fn any_meter(r: &mut Rng) -> u64 {
         2 => r.below(10_000_000),
         3 | 4 => r.below(METER_LIMIT),
         5 => METER_LIMIT - 1_000 + r.below(2_000),
-        6 => METER_LIMIT + r.below(1_000_001),
+        6 => METER_LIMIT + r.below(1_001_000),
         7 => METER_MAX - r.below(100),
         _ => r.pick(&[1, METER_LIMIT - 1, METER_LIMIT, METER_MAX - 1, METER_MAX]),
     }
@@ -66,13 +66,17 @@ pub fn sound_state(r: &mut Rng) -> Scheduler {
     let mut s = Scheduler::default();
     if !r.chance(1, 4) {
         s.settings = Settings {
-            thousandth: r.edgy(1, 1000) as u32,
             interval: if r.chance(1, 2) {
                 r.edgy(1, 1_000_000) as u32
             } else {
                 r.edgy(1, 2_000) as u32
             },
+            thousandth: r.edgy(1, 1000) as u16,
+            ..s.settings
         };
+    }
+    if r.chance(3, 4) {
+        s.settings.overrun = r.edgy(0, s.settings.thousandth as u64 - 1) as u16;
     }
     s.meter = any_meter(r);
     if r.chance(3, 4) {
@@ -208,7 +212,7 @@ fn some_thread(r: &mut Rng, s: &Scheduler, group: usize, reservation: u64, mood:
         anchor,
         ticks: r.edgy(0, s.meter - admission),
         since: r.edgy(0, s.meter - anchor),
-        allotment: r.edgy(1, quantum) as u32,
+        allotment: r.edgy(1, quantum) as i32,
         reservation: reservation as u16,
         group: group as u8,
         status: if runnable { RUNNABLE } else { BLOCKED },
@@ -232,12 +236,12 @@ fn overwrite(r: &mut Rng, s: &mut Scheduler) {
     };
     let g = r.below(16) as usize;
     let t = &mut s.threads[n];
-    match r.below(18) {
+    match r.below(20) {
         0 => t.admission = value,
         1 => t.anchor = value,
         2 => t.ticks = value,
         3 => t.since = value,
-        4 => t.allotment = value as u32,
+        4 => t.allotment = value as i32,
         5 => t.reservation = value as u16,
         6 => t.group = value as u8,
         7 => t.status = value as u8,
@@ -250,12 +254,19 @@ fn overwrite(r: &mut Rng, s: &mut Scheduler) {
         14 => s.meter = value,
         15 => {
             if r.chance(1, 2) {
-                s.settings.thousandth = value as u32;
+                s.settings.thousandth = value as u16;
             } else {
                 s.settings.interval = value as u32;
             }
         }
         16 => s.count = value as u32,
+        17 => {
+            let m = s.settings.thousandth;
+            let beside = [m.wrapping_sub(1), m, m.saturating_add(1), value as u16];
+            s.settings.overrun = r.pick(&beside);
+        }
+        // A debt that was not settled.
+        18 => t.allotment = -(r.edgy(0, 1001) as i32),
         _ => s.running = value as u32,
     }
 }
@@ -292,12 +303,16 @@ pub fn hostile_state(r: &mut Rng) -> Scheduler {
         *n = r.bits() as u8 % if tame { 65 } else { 255 };
     }
     s.meter = edge_value(r);
-    s.settings.thousandth = edge_value(r) as u32;
     s.settings.interval = edge_value(r) as u32;
+    s.settings.thousandth = edge_value(r) as u16;
+    s.settings.overrun = edge_value(r) as u16;
     s.count = edge_value(r) as u32;
     s.running = edge_value(r) as u32;
     if tame {
-        s.settings = Settings::default();
+        s.settings = Settings {
+            overrun: r.edgy(0, 100) as u16,
+            ..Settings::default()
+        };
         s.groups[0] = Group::ROOT;
         s.count %= 66;
         s.running %= 66;

@@ -41,18 +41,20 @@ impl Scheduler {
         }
     }
 
-    /// A fresh state with m and P.
-    pub fn start(m: u64, p: u64) -> Result<Scheduler, u32> {
+    /// A fresh state with m, P and O.
+    pub fn start(m: u64, p: u64, o: u64) -> Result<Scheduler, u32> {
         if m == 0
             || m > Settings::MAX_THOUSANDTH as u64
             || p == 0
             || p > Settings::MAX_INTERVAL as u64
+            || o >= m
         {
             return Err(answer::SETTINGS);
         }
         Ok(Scheduler::fresh(Settings {
-            thousandth: m as u32,
             interval: p as u32,
+            thousandth: m as u16,
+            overrun: o as u16,
         }))
     }
 
@@ -206,7 +208,7 @@ impl Scheduler {
             anchor: self.meter,
             ticks: 0,
             since: 0,
-            allotment: reservation as u32 * self.settings.thousandth,
+            allotment: reservation as i32 * self.settings.thousandth as i32,
             reservation: reservation as u16,
             group: group as u8,
             status: RUNNABLE,
@@ -256,7 +258,7 @@ impl Scheduler {
         for (before, &n) in self.list().iter().enumerate() {
             let t = &self.threads[n as usize % THREADS];
             if t.status == RUNNABLE {
-                let slice = t.allotment.min(self.settings.interval);
+                let slice = t.slice(&self.settings);
                 self.running = n as u32;
                 return Reply {
                     answer: answer::ACCEPTED,
@@ -284,8 +286,7 @@ impl Scheduler {
         }
         let n = self.running as usize % THREADS;
         let t = &mut self.threads[n];
-        let slice = t.allotment.min(self.settings.interval);
-        if used > slice as u64 {
+        if used > t.slice(&self.settings) as u64 + self.settings.overrun as u64 {
             return answer::USED;
         }
 
@@ -297,7 +298,6 @@ impl Scheduler {
         }
         t.ticks += used;
         t.since += used;
-        t.allotment -= used as u32;
         if reason == BLOCK {
             t.status = BLOCKED;
         }
@@ -305,8 +305,18 @@ impl Scheduler {
             t.anchor = self.meter;
             t.since = 0;
         }
-        if reason == YIELD || t.allotment == 0 {
-            t.allotment = t.reservation as u32 * self.settings.thousandth;
+        // Nothing left, or a debt of at most O: the quantum, which is more than O,
+        // is added once.
+        let left = t.allotment - used as i32;
+        let quantum = t.reservation as i32 * self.settings.thousandth as i32;
+        t.allotment = if left <= 0 {
+            left + quantum
+        } else if reason == YIELD {
+            quantum
+        } else {
+            left
+        };
+        if left <= 0 || reason == YIELD {
             self.rotate_to_rear(n);
         }
         answer::ACCEPTED

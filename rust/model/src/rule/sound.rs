@@ -38,8 +38,9 @@ impl Scheduler {
 
         // Bounds are tested by signs: with both below 2^63, the top bit of x - y
         // tells whether x < y. The top bit of `below` is set once an operand is
-        // too large or a difference negative. That a reservation is 1 to 1000
-        // follows: the allotment is 1 to its quantum, the sum within a ceiling.
+        // too large or a difference negative; an allotment below 0 has it set
+        // once 1 is taken. That a reservation is 1 to 1000 follows: the allotment
+        // is 1 to its quantum, the sum within a ceiling.
         let meter = self.meter;
         let m = self.settings.thousandth as u64;
         let mut below: u64 = 0;
@@ -53,7 +54,7 @@ impl Scheduler {
                 }
                 let since_admission = meter.wrapping_sub(t.admission);
                 let since_anchor = meter.wrapping_sub(t.anchor);
-                let allotment = t.allotment as u64;
+                let allotment = t.allotment as i64 as u64;
                 let quantum = t.reservation as u64 * m;
                 below |= t.admission
                     | t.anchor

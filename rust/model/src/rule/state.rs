@@ -10,8 +10,9 @@ pub const NONE: u32 = 64;
 pub const WHOLE: u16 = 1000;
 /// From this meter on no thread is dispatched.
 pub const METER_LIMIT: u64 = 10_000_000_000_000;
-/// The largest meter of a sound state.
-pub const METER_MAX: u64 = METER_LIMIT + 1_000_000;
+/// The largest meter of a sound state, whatever the overrun limit is: the longest
+/// interval and the largest overrun beyond the limit.
+pub const METER_MAX: u64 = METER_LIMIT + 1_000_000 + 999;
 
 /// Thread status: the entry is not in use.
 pub const FREE: u8 = 0;
@@ -57,31 +58,36 @@ pub mod answer {
 #[repr(C)]
 #[derive(Clone, Copy, Debug, PartialEq, Eq)]
 pub struct Settings {
-    /// m: ticks per thousandth of the virtual time quantum.
-    pub thousandth: u32,
     /// P: the preemption interval in ticks.
     pub interval: u32,
+    /// m: ticks per thousandth of the virtual time quantum.
+    pub thousandth: u16,
+    /// O: the ticks that a report may use beyond the slice, fewer than m.
+    pub overrun: u16,
 }
 
 impl Settings {
-    pub const DEFAULT_THOUSANDTH: u32 = 100;
+    pub const DEFAULT_THOUSANDTH: u16 = 100;
     pub const DEFAULT_INTERVAL: u32 = 20_000;
-    pub const MAX_THOUSANDTH: u32 = 1000;
+    pub const DEFAULT_OVERRUN: u16 = 0;
+    pub const MAX_THOUSANDTH: u16 = 1000;
     pub const MAX_INTERVAL: u32 = 1_000_000;
 
-    /// Both settings lie in their ranges.
+    /// Each setting lies in its range.
     #[inline]
     pub fn sound(&self) -> bool {
         self.thousandth.wrapping_sub(1) < Self::MAX_THOUSANDTH
             && self.interval.wrapping_sub(1) < Self::MAX_INTERVAL
+            && self.overrun < self.thousandth
     }
 }
 
 impl Default for Settings {
     fn default() -> Self {
         Settings {
-            thousandth: Self::DEFAULT_THOUSANDTH,
             interval: Self::DEFAULT_INTERVAL,
+            thousandth: Self::DEFAULT_THOUSANDTH,
+            overrun: Self::DEFAULT_OVERRUN,
         }
     }
 }
@@ -97,8 +103,8 @@ pub struct Thread {
     pub ticks: u64,
     /// Ticks since the anchor.
     pub since: u64,
-    /// Ticks left of the quantum.
-    pub allotment: u32,
+    /// Ticks left before the thread moves to the rear: 1 to its quantum.
+    pub allotment: i32,
     /// Thousandths reserved.
     pub reservation: u16,
     pub group: u8,
@@ -118,6 +124,13 @@ impl Thread {
         group: 0,
         status: FREE,
     };
+
+    /// The smaller of the allotment and P. An allotment below 0, which no sound
+    /// state holds, counts as 0.
+    #[inline]
+    pub fn slice(&self, settings: &Settings) -> u32 {
+        (self.allotment.max(0) as u32).min(settings.interval)
+    }
 }
 
 #[repr(C)]

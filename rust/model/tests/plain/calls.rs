@@ -29,6 +29,11 @@ pub fn plainly(before: &Scheduler, call: Call) -> (Reply, Scheduler) {
     }
 }
 
+/// The smaller of the thread's allotment and P.
+pub fn slice(s: &Scheduler, n: usize) -> i128 {
+    (s.threads[n].allotment as i128).min(s.settings.interval as i128)
+}
+
 /// The state before a call, and the one that is made of it.
 struct Plain<'a> {
     before: &'a Scheduler,
@@ -126,7 +131,7 @@ impl Plain<'_> {
             anchor: s.meter,
             ticks: 0,
             since: 0,
-            allotment: (reservation * s.settings.thousandth as u64) as u32,
+            allotment: (reservation * s.settings.thousandth as u64) as i32,
             reservation: reservation as u16,
             group: group as u8,
             status: 1,
@@ -183,9 +188,7 @@ impl Plain<'_> {
         if passed < list.len() {
             let n = list[passed];
             reply.thread = n as u32;
-            reply.slice = self.s.threads[n as usize]
-                .allotment
-                .min(self.s.settings.interval);
+            reply.slice = slice(&self.s, n as usize) as u32;
             self.s.running = n as u32;
         }
         (reply, self.s)
@@ -200,19 +203,20 @@ impl Plain<'_> {
             return Err(14);
         }
         let n = s.running as u64;
-        let t = &mut s.threads[n as usize];
-        if used > t.allotment as u64 || used > s.settings.interval as u64 {
+        if used as i128 > slice(s, n as usize) + s.settings.overrun as i128 {
             return Err(13);
         }
+        let t = &mut s.threads[n as usize];
         s.running = 64;
         s.meter += used;
         t.ticks += used;
         t.since += used;
-        t.allotment -= used as u32;
-        let moved = t.allotment == 0 || reason == 2;
-        if moved {
-            t.allotment = t.reservation as u32 * s.settings.thousandth;
-        }
+        let quantum = t.reservation as i128 * s.settings.thousandth as i128;
+        let left = t.allotment as i128 - used as i128;
+        let moved = left <= 0 || reason == 2;
+        // A yield forfeits what is left, never what is owed.
+        let kept = if reason == 2 { left.min(0) } else { left };
+        t.allotment = (kept + if moved { quantum } else { 0 }) as i32;
         if reason == 1 {
             t.status = 2;
         }

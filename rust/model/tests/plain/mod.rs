@@ -3,7 +3,7 @@
 mod calls;
 mod sound;
 
-pub use calls::plainly;
+pub use calls::{plainly, slice};
 pub use sound::{failing, plainly_sound};
 
 use model::blocks::{read_block, BLOCK};
@@ -24,7 +24,7 @@ pub fn plain_replay(input: &[u8]) -> String {
                     let (subject, group) = (rec.subject as u64, rec.group as u64);
                     let amount = rec.amount as u64;
                     let reply = if rec.kind == 8 {
-                        match Scheduler::start(amount, rec.ticks as u64) {
+                        match Scheduler::start(amount, rec.ticks as u64, rec.overrun as u64) {
                             Ok(new) => {
                                 state = Some(new);
                                 Reply::plain(0)

@@ -5,8 +5,10 @@ use model::rule::{Scheduler, METER_LIMIT, METER_MAX};
 /// Soundness clause by clause, in wide arithmetic.
 pub fn plainly_sound(s: &Scheduler) -> bool {
     let (m, p) = (s.settings.thousandth as i128, s.settings.interval as i128);
+    let o = s.settings.overrun as i128;
     let meter = s.meter as i128;
-    let settings = (1..=1000).contains(&m) && (1..=1_000_000).contains(&p);
+    let settings =
+        (1..=1000).contains(&m) && (1..=1_000_000).contains(&p) && (0..=m - 1).contains(&o);
     let meanings = s.threads.iter().all(|t| t.status <= 2)
         && s.groups.iter().all(|g| g.opened <= 1)
         && s.running <= 64
@@ -58,8 +60,8 @@ pub fn plainly_sound(s: &Scheduler) -> bool {
         && threads
         && list == admitted
         && running
-        && meter <= METER_MAX as i128
-        && (s.running == 64 || meter < METER_LIMIT as i128)
+        && meter <= 10_000_001_000_999
+        && (s.running == 64 || meter < 10_000_000_000_000)
 }
 
 /// The clauses of soundness that fail, each judged by itself. A status or
@@ -81,6 +83,7 @@ pub fn failing(s: &Scheduler, in_use: bool) -> Vec<&'static str> {
         .collect();
     clause("m", (1..=1000).contains(&s.settings.thousandth));
     clause("P", (1..=1_000_000).contains(&s.settings.interval));
+    clause("O", s.settings.overrun < s.settings.thousandth);
     clause("status", s.threads.iter().all(|t| t.status <= 2));
     clause("opened", s.groups.iter().all(|g| g.opened <= 1));
     clause("running", s.running <= 64);
@@ -115,8 +118,8 @@ pub fn failing(s: &Scheduler, in_use: bool) -> Vec<&'static str> {
         clause("reservation", (1..=1000).contains(&t.reservation));
         clause("thread's group", open(t.group as usize));
         clause("allotment 1", t.allotment >= 1);
-        let quantum = t.reservation as u64 * s.settings.thousandth as u64;
-        clause("allotment full", t.allotment as u64 <= quantum);
+        let quantum = t.reservation as i64 * s.settings.thousandth as i64;
+        clause("allotment full", t.allotment as i64 <= quantum);
         clause("admission", t.admission <= t.anchor);
         clause("anchor", t.anchor <= s.meter);
         // Growth counts as 0 where the clause above fails.
