@@ -342,3 +342,42 @@ fn a_journal_with_an_overrun() {
          7 0 0 0 0\n8 0 1 96 0\n9 1 0 0 0\n10 0 0 0 0\n11 0 0 0 0\n12 0 64 0 0\n"
     );
 }
+
+/// A thread that leaves takes its debt along, so one that leaves late in every
+/// round and comes back takes more than its share: the limit on what x is owed
+/// has to grow by the others' overruns, and by no less than this.
+#[test]
+fn the_guarantee_needs_the_overruns() {
+    let (f, m, p, o) = (999, 1000, 1000, 999);
+    let mut s = with(m, p, o, &[f, 1]);
+    let (mut work, mut had, mut over) = (0, 0, 0);
+    let limit = 2 * f * (1000 - f) * m + f * p;
+    for round in 1..=50 {
+        for _ in 0..f {
+            assert_eq!(run(&mut s, 1, 1000, TICK, 1000), 0);
+            had += 1000;
+            work += 1000;
+        }
+        assert_eq!(run(&mut s, 2, 1000, EXIT, 1999), 0);
+        work += 1999;
+        over += 999;
+        assert_eq!(s.admit(2, 0, 1), 0);
+        let owed = f * work - 1000 * had;
+        assert_eq!(owed, f * over);
+        assert!(owed <= limit + f * over);
+        assert_eq!(owed > limit, round > 3);
+    }
+    // One that stays pays its debt: it takes no more than its share.
+    let mut s = with(m, p, o, &[f, 1]);
+    for _ in 0..f {
+        assert_eq!(run(&mut s, 1, 1000, TICK, 1000), 0);
+    }
+    assert_eq!(run(&mut s, 2, 1000, TICK, 1999), 0);
+    for _ in 0..50 {
+        for _ in 0..f {
+            assert_eq!(run(&mut s, 1, 1000, TICK, 1000), 0);
+        }
+        assert_eq!(run(&mut s, 2, 1, TICK, 1000), 0);
+        assert_eq!(s.lag(1), Ok((f * 999) as i64));
+    }
+}

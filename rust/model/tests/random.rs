@@ -3,7 +3,7 @@
 use std::collections::BTreeMap;
 
 use model::accounts::Entry;
-use model::blocks::{read_block, BLOCK};
+use model::blocks::{kind, read_block, write_block, BLOCK};
 use model::by_value;
 use model::calls::{apply, Call};
 use model::random::{any_record, broken_states, call, hostile_state, journal, sound_state, Rng};
@@ -11,7 +11,10 @@ use model::replay::{replay, replay_from, replay_from_with, replay_with};
 use model::rule::{Reply, Scheduler, METER_MAX, NONE};
 
 mod plain;
-use plain::{failing, plain_replay, plainly, plainly_sound, slice};
+mod wrong;
+use plain::{
+    failing, plain_replay, plain_replay_by, plainly, plainly_sound, report_on_time, slice,
+};
 
 fn handed_over(s: Scheduler, call: Call) -> (Reply, Scheduler) {
     let (answer, s) = match call {
@@ -39,6 +42,8 @@ fn sound_states_are_sound_and_varied() {
     let mut r = Rng::new(2);
     let mut counts = [0u32; 65];
     let (mut running, mut last, mut deep) = (0, 0, 0);
+    // O by what it is: 0, between, m − 1 above 0.
+    let mut limits = [0u32; 3];
     for _ in 0..20_000 {
         let s = sound_state(&mut r);
         assert!(s.sound());
@@ -47,7 +52,10 @@ fn sound_states_are_sound_and_varied() {
         running += (s.running != NONE) as u32;
         last += (s.meter == METER_MAX) as u32;
         deep += (s.groups[15].opened == 1 && s.groups[15].parent == 14) as u32;
+        let (m, o) = (s.settings.thousandth, s.settings.overrun);
+        limits[(o > 0) as usize + (o > 0 && o == m - 1) as usize] += 1;
     }
+    assert!(limits.iter().all(|&n| n > 1000), "{limits:?}");
     assert!(counts.iter().all(|&c| c > 0), "{counts:?}");
     assert!(running > 1000 && last > 50 && deep > 50);
 }
@@ -116,6 +124,8 @@ fn broken_states_are_unsound() {
 fn calls_on_sound_states() {
     let mut r = Rng::new(5);
     let mut answers: BTreeMap<(u8, u32), u32> = BTreeMap::new();
+    // Accepted reports beyond the slice by reason: with something left, with a debt.
+    let mut late = [[0u32; 2]; 4];
     for _ in 0..6_000 {
         let mut s = sound_state(&mut r);
         for _ in 0..12 {
@@ -139,8 +149,16 @@ fn calls_on_sound_states() {
                 Call::Report { .. } => 7,
             };
             *answers.entry((kind, reply.answer)).or_default() += 1;
+            if let (Call::Report { reason, used }, 0) = (c, reply.answer) {
+                let n = before.running as usize;
+                if used as i128 > slice(&before, n) {
+                    let debt = used > before.threads[n].allotment as u64;
+                    late[reason as usize][debt as usize] += 1;
+                }
+            }
         }
     }
+    assert!(late.iter().flatten().all(|&n| n >= 20), "{late:?}");
     let want: [(u8, &[u32]); 7] = [
         (1, &[0, 2, 3, 4, 5]),
         (2, &[0, 2, 6]),
@@ -158,6 +176,72 @@ fn calls_on_sound_states() {
             .collect();
         assert_eq!(seen, list, "kind {kind}: {answers:?}");
     }
+}
+
+/// Without an overrun limit a report is what it was before there were any.
+#[test]
+fn reports_on_time() {
+    let mut r = Rng::new(10);
+    let mut answers: BTreeMap<u32, u32> = BTreeMap::new();
+    for _ in 0..6_000 {
+        let mut s = sound_state(&mut r);
+        s.settings.overrun = 0;
+        for _ in 0..12 {
+            let c = call(&mut r, &s);
+            let before = s;
+            let reply = apply(&mut s, c);
+            if let Call::Report { reason, used } = c {
+                assert_eq!((reply.answer, s), report_on_time(&before, reason, used));
+                *answers.entry(reply.answer).or_default() += 1;
+            }
+        }
+    }
+    let seen: Vec<u32> = answers.into_keys().collect();
+    assert_eq!(seen, [0, 11, 13, 14]);
+}
+
+/// The journal with O taken out of every start: one of the old form.
+fn old_form(journal: &[u8]) -> Vec<u8> {
+    let mut input = journal.to_vec();
+    for (place, area) in input.chunks_mut(BLOCK).enumerate() {
+        let Ok(mut records) = read_block(area, place as u32) else {
+            continue;
+        };
+        for rec in &mut records {
+            rec.overrun = 0;
+        }
+        assert_eq!(write_block(area, place as u32, &records), 0);
+    }
+    input
+}
+
+/// A journal with zeros where O stands prints what it printed before there was
+/// such a limit.
+#[test]
+fn old_journals() {
+    let mut r = Rng::new(13);
+    let (mut changed, mut starts) = (0, 0);
+    for _ in 0..2_000 {
+        let written = journal(&mut r);
+        let input = old_form(&written);
+        let printed = String::from_utf8(replay(&input)).unwrap();
+        let old = plain_replay_by(
+            &input,
+            |m, p, _| Scheduler::start(m, p, 0),
+            |s, reason, used| {
+                let (answer, after) = report_on_time(s, reason, used);
+                *s = after;
+                answer
+            },
+        );
+        assert_eq!(printed, old);
+        changed += (input != written) as u32;
+        for (place, area) in input.chunks(BLOCK).enumerate() {
+            let records = read_block(area, place as u32).unwrap_or_default();
+            starts += records.iter().filter(|rec| rec.kind == kind::START).count();
+        }
+    }
+    assert!(changed > 500 && starts > 1000, "{changed} {starts}");
 }
 
 #[test]
@@ -242,6 +326,17 @@ fn sparing(r: &mut Rng, s: &Scheduler, call: Call, first: &[bool; 64]) -> Call {
     call
 }
 
+/// A report of any thread but the target uses all that it may.
+fn late(s: &Scheduler, call: Call, target: u32) -> Call {
+    match call {
+        Call::Report { reason, .. } if s.running < NONE && s.running != target => {
+            let used = slice(s, s.running as usize) as u64 + s.settings.overrun as u64;
+            Call::Report { reason, used }
+        }
+        _ => call,
+    }
+}
+
 /// A stretch of the share guarantee (RULE 9) and what was checked in it.
 struct Stretch {
     start: Scheduler,
@@ -314,12 +409,17 @@ fn share_guarantee() {
         let mut stretch = Stretch::new(s);
         // Thread that the next accepted report counts for.
         let mut named = s.running;
-        // Every other round calls that end a premise are rare.
+        // Every other round calls that end a premise are rare, and in half of
+        // these all others than one thread are late.
         let long = round % 2 == 0;
+        let target = s.list().first().copied().unwrap_or(0) as u32;
         for _ in 0..if long { 600 } else { 150 } {
             let mut c = call(&mut r, &s);
             if long {
                 c = sparing(&mut r, &s, c, &stretch.first);
+            }
+            if round % 4 == 0 {
+                c = late(&s, c, target);
             }
             let before = s;
             let reply = apply(&mut s, c);

@@ -96,14 +96,14 @@ fn report_call(r: &mut Rng, s: &Scheduler) -> Call {
             5..=7 => 1,
             _ => 0,
         },
-        used: match r.below(16) {
+        used: match r.below(20) {
             0 => edge_value(r),
             1 => slice + 1,
             2 => 0,
-            3 => most,
-            4 => most + 1,
-            5 | 6 => r.edgy(slice, most),
-            7..=9 => r.edgy(0, slice),
+            3 | 4 => most,
+            5 => most + 1,
+            6..=8 => r.edgy(slice, most),
+            9..=11 => r.edgy(0, slice),
             _ => slice,
         },
     }

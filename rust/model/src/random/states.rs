@@ -75,8 +75,8 @@ pub fn sound_state(r: &mut Rng) -> Scheduler {
             ..s.settings
         };
     }
-    if r.chance(3, 4) {
-        s.settings.overrun = r.edgy(0, s.settings.thousandth as u64 - 1) as u16;
+    if s.settings.thousandth > 1 && r.chance(3, 4) {
+        s.settings.overrun = r.edgy(1, s.settings.thousandth as u64 - 1) as u16;
     }
     s.meter = any_meter(r);
     if r.chance(3, 4) {

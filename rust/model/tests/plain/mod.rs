@@ -1,9 +1,11 @@
 //! The rule once more, in a plain and slow way: what the model is compared with.
 
 mod calls;
+mod on_time;
 mod sound;
 
 pub use calls::{plainly, slice};
+pub use on_time::report_on_time;
 pub use sound::{failing, plainly_sound};
 
 use model::blocks::{read_block, BLOCK};
@@ -11,6 +13,15 @@ use model::rule::{Reply, Scheduler};
 
 /// The replay with formatting by the standard library.
 pub fn plain_replay(input: &[u8]) -> String {
+    plain_replay_by(input, Scheduler::start, Scheduler::report)
+}
+
+/// The same with a start and a report of one's own.
+pub fn plain_replay_by(
+    input: &[u8],
+    start: impl Fn(u64, u64, u64) -> Result<Scheduler, u32>,
+    report: impl Fn(&mut Scheduler, u64, u64) -> u32,
+) -> String {
     let mut out = String::new();
     let mut state = Some(Scheduler::default());
     for (place, area) in input.chunks(BLOCK).enumerate() {
@@ -24,7 +35,7 @@ pub fn plain_replay(input: &[u8]) -> String {
                     let (subject, group) = (rec.subject as u64, rec.group as u64);
                     let amount = rec.amount as u64;
                     let reply = if rec.kind == 8 {
-                        match Scheduler::start(amount, rec.ticks as u64, rec.overrun as u64) {
+                        match start(amount, rec.ticks as u64, rec.overrun as u64) {
                             Ok(new) => {
                                 state = Some(new);
                                 Reply::plain(0)
@@ -39,7 +50,7 @@ pub fn plain_replay(input: &[u8]) -> String {
                             4 => Reply::plain(s.remove(subject)),
                             5 => Reply::plain(s.wake(subject)),
                             6 => s.dispatch(),
-                            7 => Reply::plain(s.report(rec.reason as u64, rec.ticks as u64)),
+                            7 => Reply::plain(report(s, rec.reason as u64, rec.ticks as u64)),
                             _ => unreachable!(),
                         }
                     } else {
