@@ -11,7 +11,7 @@
  *
  *     static mtr_scheduler state;
  *     mtr_run run;
- *     mtr_answer answer = mtr_start(&state, 100, 20000);
+ *     mtr_answer answer = mtr_start(&state, 100, 20000, 0);
  *     ...
  *     answer = mtr_dispatch(&state, &run);
  *     if (answer != MTR_ACCEPTED)
@@ -21,6 +21,14 @@
  * is refused with MTR_REFUSED_UNSOUND. A pointer is not null, is aligned and is
  * valid for the length that goes with it, and no two overlap. One tick is a
  * microsecond; reservations and ceilings are thousandths of the core.
+ *
+ * Timers that fire late. The timer that ends a run may fire some ticks after the
+ * end of the slice, and the thread has run on meanwhile: an overrun. The last
+ * argument of mtr_start, O, is the most ticks that a report may use beyond its
+ * slice, 0 to m - 1; more is refused with MTR_REFUSED_OVER_SLICE. The host
+ * reports all ticks that were used, and all are charged. What goes beyond the
+ * allotment is a debt: the thread moves to the rear, and its next allotment is
+ * its quantum less the debt. With O = 0 a report uses at most its slice.
  *
  * Threads and interrupts. The library has no memory of its own, allocates none,
  * and of libc calls the mem functions alone. A call touches what it is handed
@@ -158,10 +166,20 @@ MTR_STRUCT(size_t, 8, 8);
 #define MTR_DEFAULT_THOUSANDTH 100
 /* P by default. */
 #define MTR_DEFAULT_INTERVAL 20000
+/* O by default. */
+#define MTR_DEFAULT_OVERRUN 0
+/* The least m. */
+#define MTR_LEAST_THOUSANDTH 1
+/* The least P. */
+#define MTR_LEAST_INTERVAL 1
+/* The least O. */
+#define MTR_LEAST_OVERRUN 0
 /* The greatest m. */
 #define MTR_MOST_THOUSANDTH 1000
 /* The greatest P. */
 #define MTR_MOST_INTERVAL 1000000
+/* The greatest O, which the greatest m allows; with any m it is m - 1. */
+#define MTR_MOST_OVERRUN 999
 
 /* Limits of the meter and of priorities. */
 
@@ -178,7 +196,7 @@ MTR_STRUCT(size_t, 8, 8);
 typedef enum mtr_answer MTR_UNSIGNED {
     /* The call is accepted. */
     MTR_ACCEPTED = 0,
-    /* m or P is outside its range. */
+    /* m, P or O is outside its range. */
     MTR_REFUSED_SETTINGS = 1,
     /*
      * The group or parent is above 15 or not open, or group 0 is to be closed.
@@ -206,7 +224,7 @@ typedef enum mtr_answer MTR_UNSIGNED {
     MTR_REFUSED_NOTHING_RUNNING = 11,
     /* A thread is running. */
     MTR_REFUSED_BUSY = 12,
-    /* More is used than the slice. */
+    /* More is used than the slice and the overrun limit. */
     MTR_REFUSED_OVER_SLICE = 13,
     /* The reason is above 3. */
     MTR_REFUSED_REASON = 14,
@@ -232,7 +250,7 @@ typedef enum mtr_reason MTR_UNSIGNED {
     MTR_REASON_TICK = 0,
     /* It blocks until it is woken. */
     MTR_REASON_BLOCK = 1,
-    /* Its allotment is filled and it moves to the rear. */
+    /* It moves to the rear with a full allotment, less its debt. */
     MTR_REASON_YIELD = 2,
     /* It leaves the list and frees its number. */
     MTR_REASON_EXIT = 3
@@ -293,7 +311,7 @@ MTR_MUST_USE static inline const char *mtr_answer_text(mtr_answer answer)
     case MTR_ACCEPTED:
         return "the call is accepted";
     case MTR_REFUSED_SETTINGS:
-        return "m or P is outside its range";
+        return "m, P or O is outside its range";
     case MTR_REFUSED_NO_GROUP:
         return "the group or parent is above 15 or not open, or group 0 is to be closed";
     case MTR_REFUSED_GROUP_NUMBER:
@@ -317,7 +335,7 @@ MTR_MUST_USE static inline const char *mtr_answer_text(mtr_answer answer)
     case MTR_REFUSED_BUSY:
         return "a thread is running";
     case MTR_REFUSED_OVER_SLICE:
-        return "more is used than the slice";
+        return "more is used than the slice and the overrun limit";
     case MTR_REFUSED_REASON:
         return "the reason is above 3";
     case MTR_REFUSED_METER_FULL:

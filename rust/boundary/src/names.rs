@@ -160,6 +160,26 @@ pub const FAMILIES: [Family; 10] = [
                 "P by default.",
             ),
             one(
+                "DEFAULT_OVERRUN",
+                constant(SCHEDULER, "Settings::OVERRUN"),
+                "O by default.",
+            ),
+            one(
+                "LEAST_THOUSANDTH",
+                constant(SCHEDULER, "Settings::THOUSANDTH_LEAST"),
+                "The least m.",
+            ),
+            one(
+                "LEAST_INTERVAL",
+                constant(SCHEDULER, "Settings::INTERVAL_LEAST"),
+                "The least P.",
+            ),
+            one(
+                "LEAST_OVERRUN",
+                constant(SCHEDULER, "Settings::OVERRUN_LEAST"),
+                "The least O.",
+            ),
+            one(
                 "MOST_THOUSANDTH",
                 constant(SCHEDULER, "Settings::THOUSANDTH_MOST"),
                 "The greatest m.",
@@ -168,6 +188,11 @@ pub const FAMILIES: [Family; 10] = [
                 "MOST_INTERVAL",
                 constant(SCHEDULER, "Settings::INTERVAL_MOST"),
                 "The greatest P.",
+            ),
+            one(
+                "MOST_OVERRUN",
+                constant(SCHEDULER, "Settings::OVERRUN_MOST"),
+                "The greatest O, which the greatest m allows; with any m it is m - 1.",
             ),
         ],
     },
@@ -249,7 +274,7 @@ pub const FAMILIES: [Family; 10] = [
             one(
                 "REASON_YIELD",
                 constant(RUN, "YIELD"),
-                "Its allotment is filled and it moves to the rear.",
+                "It moves to the rear with a full allotment, less its debt.",
             ),
             one(
                 "REASON_EXIT",

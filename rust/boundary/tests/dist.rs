@@ -151,14 +151,14 @@ const PROGRAM: &str = r#"#include <mtr.h>
 int main(void) {
     static mtr_scheduler state;
     mtr_run run;
-    if (mtr_start(&state, MTR_DEFAULT_THOUSANDTH, MTR_DEFAULT_INTERVAL) != MTR_ACCEPTED)
+    if (mtr_start(&state, MTR_DEFAULT_THOUSANDTH, MTR_DEFAULT_INTERVAL, MTR_DEFAULT_OVERRUN) != MTR_ACCEPTED)
         return 1;
     if (mtr_admit(&state, 5, 0, 500) != MTR_ACCEPTED)
         return 2;
     mtr_answer full = mtr_admit(&state, 7, 0, 501);
     if (mtr_dispatch(&state, &run) != MTR_ACCEPTED)
         return 3;
-    mtr_records list = {{{MTR_KIND_DISPATCH, 0, 0, 0, 0, 0}}};
+    mtr_records list = {{{MTR_KIND_DISPATCH, 0, 0, 0, 0, 0, 0}}};
     uint8_t area[MTR_BLOCK_BYTES];
     size_t count = 0;
     if (mtr_write_block(area, sizeof area, 0, &list, 1) != MTR_ACCEPTED)
@@ -247,10 +247,10 @@ target_link_libraries(prog mtr::mtr)
             run(configure.current_dir(above))
         };
         // A later version, another major one; then this.
-        for wanted in ["1.99", "2.0", "0.9"] {
+        for wanted in ["2.99", "3.0", "1.1"] {
             assert!(!configured(wanted).status.success(), "{wanted}");
         }
-        for wanted in ["1.0", version.trim()] {
+        for wanted in ["2.0", version.trim()] {
             let output = configured(wanted);
             assert!(output.status.success(), "{}", said(&output));
         }

@@ -55,6 +55,8 @@ fn asserts_hold_the_layout() {
         ("    uint32_t ticks;", "    uint16_t ticks;"),
         ("    mtr_group groups[16];", "    mtr_group groups[17];"),
         ("    int64_t lag;", "    int32_t lag;"),
+        ("    int32_t allotment;", "    int64_t allotment;"),
+        ("    uint16_t overrun;", "    uint32_t overrun;"),
         (
             "    uint8_t parent;\n    uint8_t opened;",
             "    uint8_t opened;\n    uint8_t parent;",
@@ -133,6 +135,24 @@ fn both_assert_the_same() {
         c.len()
     );
     assert_eq!(c, asserted_in_rust());
+}
+
+/// No byte of a struct at the boundary is padding: its fields lie one behind the other, from its beginning to its end.
+#[test]
+fn fields_add_up() {
+    let layout = asserted_in_c();
+    let structs = layout.keys().filter(|key| key.1.is_empty());
+    for (name, _) in structs.filter(|key| key.0 != "size_t") {
+        let of = |key: &&(String, String)| key.0 == *name && !key.1.is_empty();
+        let mut fields: Vec<[u64; 2]> = layout.keys().filter(of).map(|key| layout[key]).collect();
+        fields.sort_unstable();
+        let mut end = 0;
+        for [offset, size] in fields {
+            assert_eq!(offset, end, "{name}");
+            end += size;
+        }
+        assert_eq!(end, layout[&(name.clone(), String::new())][0], "{name}");
+    }
 }
 
 /// Every constant has the same value in both.

@@ -68,8 +68,9 @@ static void calls(void)
     const mtr_scheduler zeros = state;
     CHANGED(MTR_REFUSED_UNSOUND, wake, 5);
     HOLD(!mtr_sound(&state));
-    HOLD(mtr_start(&state, 0, 20000) == MTR_REFUSED_SETTINGS && same(&state, &zeros));
-    HOLD(mtr_start(&state, MTR_DEFAULT_THOUSANDTH, MTR_DEFAULT_INTERVAL) == MTR_ACCEPTED && mtr_sound(&state));
+    HOLD(mtr_start(&state, 0, 20000, 0) == MTR_REFUSED_SETTINGS && same(&state, &zeros));
+    HOLD(mtr_start(&state, MTR_DEFAULT_THOUSANDTH, MTR_DEFAULT_INTERVAL, MTR_DEFAULT_OVERRUN) == MTR_ACCEPTED);
+    HOLD(mtr_sound(&state) && state.settings.overrun == 0);
     CHANGED(MTR_ACCEPTED, open, 1, 0, 300);
     CHANGED(MTR_REFUSED_GROUP_NUMBER, open, 1, 0, 300);
     CHANGED(MTR_ACCEPTED, admit, 5, 0, 500);
@@ -117,6 +118,36 @@ static void figures(void)
     HOLD(same(&state, &before));
 }
 
+/* A timer that fires up to 9 ticks late: the debt is kept, also by a yield. */
+static void overruns(void)
+{
+    const mtr_scheduler before = state;
+    HOLD(mtr_start(&state, 10, 1000, 10) == MTR_REFUSED_SETTINGS && same(&state, &before));
+    /* Cut to 16 bits this would be 0. */
+    HOLD(mtr_start(&state, 10, 1000, UINT64_C(1) << 16) == MTR_REFUSED_SETTINGS && same(&state, &before));
+    HOLD(mtr_start(&state, MTR_LEAST_THOUSANDTH, MTR_LEAST_INTERVAL, 1) == MTR_REFUSED_SETTINGS && same(&state, &before));
+    HOLD(mtr_start(&state, MTR_LEAST_THOUSANDTH, MTR_LEAST_INTERVAL, MTR_LEAST_OVERRUN) == MTR_ACCEPTED);
+    HOLD(mtr_start(&state, MTR_MOST_THOUSANDTH, MTR_MOST_INTERVAL, MTR_MOST_OVERRUN) == MTR_ACCEPTED);
+    HOLD(state.settings.overrun == 999 && mtr_sound(&state));
+    state.settings.overrun = 1000;
+    CHANGED(MTR_REFUSED_UNSOUND, admit, 5, 0, 10);
+    HOLD(mtr_start(&state, 10, 1000, 9) == MTR_ACCEPTED && state.settings.overrun == 9);
+    CHANGED(MTR_ACCEPTED, admit, 5, 0, 10);
+    dispatch(MTR_ACCEPTED, run_of(5, 100, 0));
+    CHANGED(MTR_REFUSED_OVER_SLICE, report, MTR_REASON_TICK, 110);
+    CHANGED(MTR_ACCEPTED, report, MTR_REASON_TICK, 109);
+    HOLD(state.threads[5].allotment == 91);
+    dispatch(MTR_ACCEPTED, run_of(5, 91, 0));
+    CHANGED(MTR_ACCEPTED, report, MTR_REASON_YIELD, 95);
+    mtr_entry table[1];
+    size_t filled = 0;
+    HOLD(mtr_roster(&state, table, 1, &filled) == MTR_ACCEPTED && filled == 1 && table[0].allotment == 96);
+    /* Below 0 an allotment is not sound. */
+    state.threads[5].allotment = -1;
+    CHANGED(MTR_REFUSED_UNSOUND, wake, 5);
+    HOLD(state.threads[5].allotment < 0);
+}
+
 static void blocks(void)
 {
     mtr_records list;
@@ -136,12 +167,21 @@ static void blocks(void)
     HOLD(count == 77 && memcmp(&found, &untouched, sizeof found) == 0);
     HOLD(mtr_read_block(area, sizeof area, 3, &found, &count) == MTR_ACCEPTED && count == 2);
     HOLD(found.records[1].kind == MTR_KIND_WAKE && found.records[1].subject == 9 && found.records[2].kind == 0);
+    /* A start alone has an overrun limit. */
+    list.records[1].overrun = 1;
+    HOLD(mtr_write_block(area, sizeof area, 3, &list, 2) == MTR_REFUSED_FORM);
+    list.records[1].kind = MTR_KIND_START;
+    list.records[1].subject = 0;
+    list.records[1].overrun = 0x1234;
+    HOLD(mtr_write_block(area, sizeof area, 3, &list, 2) == MTR_ACCEPTED && area[40] == 0x34 && area[41] == 0x12);
+    HOLD(mtr_read_block(area, sizeof area, 3, &found, &count) == MTR_ACCEPTED && memcmp(&found, &list, sizeof list) == 0);
 }
 
 int main(void)
 {
     calls();
     figures();
+    overruns();
     blocks();
     HOLD(mtr_version() == MTR_VERSION);
     for (uint32_t answer = 0; answer <= 21; answer++)

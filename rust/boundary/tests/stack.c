@@ -21,7 +21,7 @@ static int64_t lag;
 static volatile unsigned answer;
 
 static void f_nothing(void) { answer = 0; }
-static void f_start(void) { answer = mtr_start(&other, 100, 20000); }
+static void f_start(void) { answer = mtr_start(&other, 100, 20000, 99); }
 static void f_open(void) { answer = mtr_open(&state, 1, 0, 100); }
 static void f_close(void) { answer = mtr_close(&state, 1); }
 static void f_admit(void) { answer = mtr_admit(&state, 9, 0, 5); }
@@ -79,7 +79,7 @@ int main(void)
         { "write_block", f_write_block },
         { "read_block", f_read_block },
     };
-    if (mtr_start(&state, 100, 20000) != MTR_ACCEPTED || mtr_admit(&state, 5, 0, 500) != MTR_ACCEPTED)
+    if (mtr_start(&state, 100, 20000, 99) != MTR_ACCEPTED || mtr_admit(&state, 5, 0, 500) != MTR_ACCEPTED)
         return 1;
     const size_t nothing = taken(f_nothing);
     for (size_t i = 0; i < sizeof all / sizeof *all; i++) {

@@ -43,7 +43,7 @@ const HEAD: &str = r#"/*
  *
  *     static mtr_scheduler state;
  *     mtr_run run;
- *     mtr_answer answer = mtr_start(&state, 100, 20000);
+ *     mtr_answer answer = mtr_start(&state, 100, 20000, 0);
  *     ...
  *     answer = mtr_dispatch(&state, &run);
  *     if (answer != MTR_ACCEPTED)
@@ -53,6 +53,14 @@ const HEAD: &str = r#"/*
  * is refused with MTR_REFUSED_UNSOUND. A pointer is not null, is aligned and is
  * valid for the length that goes with it, and no two overlap. One tick is a
  * microsecond; reservations and ceilings are thousandths of the core.
+ *
+ * Timers that fire late. The timer that ends a run may fire some ticks after the
+ * end of the slice, and the thread has run on meanwhile: an overrun. The last
+ * argument of mtr_start, O, is the most ticks that a report may use beyond its
+ * slice, 0 to m - 1; more is refused with MTR_REFUSED_OVER_SLICE. The host
+ * reports all ticks that were used, and all are charged. What goes beyond the
+ * allotment is a debt: the thread moves to the rear, and its next allotment is
+ * its quantum less the debt. With O = 0 a report uses at most its slice.
  *
  * Threads and interrupts. The library has no memory of its own, allocates none,
  * and of libc calls the mem functions alone. A call touches what it is handed

@@ -1,4 +1,5 @@
-//! The size of each struct and the place of each field.
+//! The size of each struct and the place of each field. A struct has no byte
+//! that is not a field's.
 
 use super::resolve::Work;
 use super::{Field, Form, Struct};
@@ -54,6 +55,10 @@ impl Work<'_> {
             let form = self.form(file, field.line, &field.of)?;
             let (size, own) = self.size_and_align(&form);
             let offset = at.next_multiple_of(own);
+            if offset > at {
+                let place = format!("before its field `{}`", field.name);
+                return Err(padded(file, field.line, &s.name, &place));
+            }
             at = offset + size;
             align = align.max(own);
             fields.push(Field {
@@ -71,6 +76,10 @@ impl Work<'_> {
                 format!("the struct `{}` is empty", s.name),
             ));
         }
+        let size = at.next_multiple_of(align);
+        if size > at {
+            return Err(padded(file, s.line, &s.name, "at its end"));
+        }
         let own = format!("{}::", s.name);
         let constants = &self.files[file].constants;
         let zero = !constants.iter().any(|c| c.name.starts_with(&own));
@@ -78,7 +87,7 @@ impl Work<'_> {
             doc: s.doc.join(" "),
             name: s.name.clone(),
             fields,
-            size: at.next_multiple_of(align),
+            size,
             align,
             zero,
         });
@@ -98,4 +107,12 @@ impl Work<'_> {
             }
         }
     }
+}
+
+/// The refusal of bytes that are no field's. What they hold is no part of the
+/// value, and a copy need not keep it: states that are equal would differ byte
+/// by byte, and one that a host stores would take along what lay in memory.
+fn padded(file: &str, line: usize, name: &str, place: &str) -> Error {
+    let text = format!("the struct `{name}` has padding {place}");
+    Error::at(file, line, text)
 }

@@ -2,7 +2,7 @@
 //! use with the place of each field, and the constants.
 //!
 //! A number or a struct of numbers passes by value, and a slice as a pointer
-//! and a length. Everything else is refused.
+//! and a length. Everything else is refused, and so is a struct with padding.
 
 mod layout;
 mod resolve;

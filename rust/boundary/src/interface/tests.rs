@@ -6,15 +6,20 @@ use crate::Error;
 const SCHEDULER: &str = "
 pub mod run;
 #[repr(C)]
-pub struct Settings { pub a: u8, pub b: u64, pub c: u16 }
+pub struct Settings { pub a: u64, pub b: i32, pub c: u16, pub d: [u8; 2] }
 impl Settings {
     pub const THOUSANDTH: u32 = 100;
     pub const INTERVAL: u32 = 20000;
+    pub const OVERRUN: u16 = 0;
+    pub const THOUSANDTH_LEAST: u32 = 1;
+    pub const INTERVAL_LEAST: u32 = 1;
+    pub const OVERRUN_LEAST: u16 = 0;
     pub const THOUSANDTH_MOST: u32 = 1000;
     pub const INTERVAL_MOST: u32 = 1000000;
+    pub const OVERRUN_MOST: u16 = 999;
 }
 #[repr(C)]
-pub struct Scheduler { pub settings: [Settings; 3], pub order: [u8; 5] }
+pub struct Scheduler { pub settings: [Settings; 3], pub order: [u8; 8] }
 impl Scheduler {
     pub const THREADS: u32 = 64;
     pub const GROUPS: u32 = 16;
@@ -33,6 +38,20 @@ pub struct Hidden {
 pub struct Round { pub x: [Round; 1] }
 #[repr(C)]
 pub struct None {}
+#[repr(C)]
+pub struct Between {
+    pub x: u16,
+    pub y: u32,
+}
+#[repr(C)]
+pub struct Behind {
+    pub x: i64,
+    pub y: i32,
+}
+#[repr(C)]
+pub struct Within { pub x: u8, pub y: [Settings; 1] }
+#[repr(C)]
+pub struct Holds { pub x: [Behind; 1] }
 ";
 const RUN: &str = "
 pub const TICK: u64 = 0;
@@ -53,7 +72,7 @@ pub const WIDTH: u64 = 4;
 ";
 const RECORD: &str = "
 #[repr(C)]
-pub struct Record { pub kind: u8, pub ticks: u32 }
+pub struct Record { pub kind: u32, pub ticks: u32 }
 
 // Opens.
 pub const OPEN: u8 = 1;
@@ -120,8 +139,8 @@ fn offsets() {
         })
         .collect();
     let wanted = [
-        ("Settings", 24, 8, vec![0, 8, 16], false),
-        ("Scheduler", 80, 8, vec![0, 72], false),
+        ("Settings", 16, 8, vec![0, 8, 12, 14], false),
+        ("Scheduler", 56, 8, vec![0, 48], false),
         ("Record", 8, 4, vec![0, 4], true),
         ("Records", 248, 4, vec![0], true),
     ];
@@ -212,16 +231,37 @@ fn types_without_a_fixed_form() {
     }
     assert_eq!(
         said("x: scheduler::Round"),
-        "crates/scheduler/src/lib.rt:28: the struct `Round` holds itself"
+        "crates/scheduler/src/lib.rt:33: the struct `Round` holds itself"
     );
     assert_eq!(
         said("x: scheduler::None"),
-        "crates/scheduler/src/lib.rt:30: the struct `None` is empty"
+        "crates/scheduler/src/lib.rt:35: the struct `None` is empty"
     );
     assert_eq!(
         said("x: scheduler::Hidden"),
-        "crates/scheduler/src/lib.rt:25: the field `y` of a struct at the boundary is private"
+        "crates/scheduler/src/lib.rt:30: the field `y` of a struct at the boundary is private"
     );
+}
+
+/// A struct in which fields and size don't add up, by itself or in what it holds.
+#[test]
+fn structs_with_padding() {
+    for (name, wanted) in [
+        (
+            "Between",
+            "39: the struct `Between` has padding before its field `y`",
+        ),
+        ("Behind", "42: the struct `Behind` has padding at its end"),
+        (
+            "Within",
+            "47: the struct `Within` has padding before its field `y`",
+        ),
+        ("Holds", "42: the struct `Behind` has padding at its end"),
+    ] {
+        let wanted = format!("crates/scheduler/src/lib.rt:{wanted}");
+        assert_eq!(said(&format!("x: scheduler::{name}")), wanted);
+        assert_eq!(said(&format!("x: &mut [scheduler::{name}]")), wanted);
+    }
 }
 
 #[test]
