@@ -61,6 +61,8 @@ pub enum Event {
         reason: u8,
         used: u32,
     },
+    /// The overrun limit stands in bytes that were zero before version 2.0.0,
+    /// so that the start of an older journal has the limit 0.
     Start(Settings),
 }
 
@@ -118,6 +120,7 @@ impl From<Event> for Record {
             Event::Start(settings) => Record {
                 kind: raw::KIND_START,
                 amount: settings.thousandth,
+                overrun: settings.overrun,
                 ticks: settings.interval,
                 ..zero
             },
@@ -159,6 +162,7 @@ impl TryFrom<Record> for Event {
             raw::KIND_START => Event::Start(Settings {
                 thousandth: record.amount,
                 interval: record.ticks,
+                overrun: record.overrun,
             }),
             _ => return Err(Refusal::Form),
         };

@@ -12,10 +12,10 @@ pub use crate::raw::{
     Thread, Total,
 };
 
-/// A fresh state with m and P. Refused, the state is all zeros.
+/// A fresh state with m, P and O. Refused, the state is all zeros.
 #[inline]
-pub fn start(thousandth: u64, interval: u64) -> Reply {
-    raw::mtr_by_value_start(thousandth, interval)
+pub fn start(thousandth: u64, interval: u64, overrun: u64) -> Reply {
+    raw::mtr_by_value_start(thousandth, interval, overrun)
 }
 
 /// Opens a group below a parent.
@@ -54,7 +54,8 @@ pub fn dispatch(state: Scheduler) -> Reply {
     raw::mtr_by_value_dispatch(state)
 }
 
-/// Charges the running thread and ends its run.
+/// Charges the running thread the ticks used, up to its slice and O, and ends
+/// its run.
 #[inline]
 pub fn report(state: Scheduler, reason: u64, used: u64) -> Reply {
     raw::mtr_by_value_report(state, reason, used)
@@ -154,11 +155,12 @@ impl Total {
 }
 
 impl LagLine {
-    /// The lag, or the refusal.
+    /// The lag, or the refusal. The answer is 64 bits wide, as the lag is, so
+    /// that the struct has no padding.
     pub fn result(self) -> Result<i64, u32> {
         match self.answer {
             0 => Ok(self.lag),
-            refusal => Err(refusal),
+            refusal => Err(refusal.try_into().unwrap_or(u32::MAX)),
         }
     }
 }

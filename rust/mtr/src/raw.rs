@@ -61,10 +61,20 @@ pub const WHOLE: u32 = 1000;
 pub const DEFAULT_THOUSANDTH: u32 = 100;
 /// P by default.
 pub const DEFAULT_INTERVAL: u32 = 20000;
+/// O by default.
+pub const DEFAULT_OVERRUN: u32 = 0;
+/// The least m.
+pub const LEAST_THOUSANDTH: u32 = 1;
+/// The least P.
+pub const LEAST_INTERVAL: u32 = 1;
+/// The least O.
+pub const LEAST_OVERRUN: u32 = 0;
 /// The greatest m.
 pub const MOST_THOUSANDTH: u32 = 1000;
 /// The greatest P.
 pub const MOST_INTERVAL: u32 = 1000000;
+/// The greatest O, which the greatest m allows; with any m it is m - 1.
+pub const MOST_OVERRUN: u32 = 999;
 
 // Limits of the meter and of priorities.
 
@@ -81,7 +91,7 @@ pub const HIGHEST_PRIORITY: u64 = 10;
 
 /// The call is accepted.
 pub const ACCEPTED: u32 = 0;
-/// m or P is outside its range.
+/// m, P or O is outside its range.
 pub const REFUSED_SETTINGS: u32 = 1;
 /// The group or parent is above 15 or not open, or group 0 is to be closed.
 pub const REFUSED_NO_GROUP: u32 = 2;
@@ -105,7 +115,7 @@ pub const REFUSED_NOT_BLOCKED: u32 = 10;
 pub const REFUSED_NOTHING_RUNNING: u32 = 11;
 /// A thread is running.
 pub const REFUSED_BUSY: u32 = 12;
-/// More is used than the slice.
+/// More is used than the slice and the overrun limit.
 pub const REFUSED_OVER_SLICE: u32 = 13;
 /// The reason is above 3.
 pub const REFUSED_REASON: u32 = 14;
@@ -128,7 +138,7 @@ pub const REFUSED_NOT_STARTED: u32 = 20;
 pub const REASON_TICK: u64 = 0;
 /// It blocks until it is woken.
 pub const REASON_BLOCK: u64 = 1;
-/// Its allotment is filled and it moves to the rear.
+/// It moves to the rear with a full allotment, less its debt.
 pub const REASON_YIELD: u64 = 2;
 /// It leaves the list and frees its number.
 pub const REASON_EXIT: u64 = 3;
@@ -181,7 +191,7 @@ pub const KIND_START: u8 = 8;
 pub const fn answer_text(answer: u32) -> &'static str {
     match answer {
         ACCEPTED => "the call is accepted",
-        REFUSED_SETTINGS => "m or P is outside its range",
+        REFUSED_SETTINGS => "m, P or O is outside its range",
         REFUSED_NO_GROUP => {
             "the group or parent is above 15 or not open, or group 0 is to be closed"
         }
@@ -197,7 +207,7 @@ pub const fn answer_text(answer: u32) -> &'static str {
         REFUSED_NOT_BLOCKED => "the thread to wake is not blocked",
         REFUSED_NOTHING_RUNNING => "nothing is running",
         REFUSED_BUSY => "a thread is running",
-        REFUSED_OVER_SLICE => "more is used than the slice",
+        REFUSED_OVER_SLICE => "more is used than the slice and the overrun limit",
         REFUSED_REASON => "the reason is above 3",
         REFUSED_METER_FULL => "the meter is at its limit",
         REFUSED_UNSOUND => "the state is not sound",

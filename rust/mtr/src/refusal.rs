@@ -86,11 +86,16 @@ impl fmt::Display for Refusal {
 
 impl Error for Refusal {}
 
-/// What an answer says. The library's contracts leave no number but 0 and the
-/// listed ones; any other would be a state that can't be relied on.
+/// What an answer says.
 pub(crate) fn accepted(answer: u32) -> Result<(), Refusal> {
     match answer {
         raw::ACCEPTED => Ok(()),
-        number => Err(Refusal::from_number(number).unwrap_or(Refusal::Unsound)),
+        number => Err(refused(number)),
     }
+}
+
+/// What an answer other than 0 says. The library's contracts leave no number
+/// but the listed ones; any other would be a state that can't be relied on.
+pub(crate) fn refused(number: u32) -> Refusal {
+    Refusal::from_number(number).unwrap_or(Refusal::Unsound)
 }

@@ -1,23 +1,39 @@
 //! The scheduler as a value with methods.
 
-use crate::refusal::accepted;
+use crate::refusal::{accepted, refused};
 use crate::{numbers, raw, Event, Refusal};
 
 /// The settings that a scheduler is started with.
+///
+/// ```
+/// use mtr::{Refusal, Scheduler, Settings};
+///
+/// // The timer may fire up to 50 microseconds after the end of a slice.
+/// let settings = Settings { overrun: 50, ..Settings::default() };
+/// assert_eq!(Scheduler::new(settings)?.settings(), settings);
+///
+/// let most = Settings { overrun: settings.thousandth, ..settings };
+/// assert_eq!(Scheduler::new(most), Err(Refusal::Settings));
+/// # Ok::<(), Refusal>(())
+/// ```
 #[derive(Clone, Copy, Debug, PartialEq, Eq, Hash)]
 pub struct Settings {
     /// m: ticks per thousandth of the virtual time quantum, 1 to 1000.
     pub thousandth: u16,
     /// P: the preemption interval in ticks, 1 to 1,000,000.
     pub interval: u32,
+    /// O, the overrun limit: the ticks that a report may use beyond its slice,
+    /// as when a timer fires late; 0 to m − 1.
+    pub overrun: u16,
 }
 
 impl Default for Settings {
-    /// A quantum of 100 ms and a preemption interval of 20 ms.
+    /// A quantum of 100 ms, a preemption interval of 20 ms and no overrun.
     fn default() -> Self {
         Settings {
             thousandth: raw::DEFAULT_THOUSANDTH as u16,
             interval: raw::DEFAULT_INTERVAL,
+            overrun: raw::DEFAULT_OVERRUN as u16,
         }
     }
 }
@@ -29,7 +45,7 @@ pub enum Reason {
     Tick,
     /// It blocks until it is woken.
     Block,
-    /// Its allotment is filled and it moves to the rear.
+    /// It moves to the rear with a full allotment, less its debt.
     Yield,
     /// It leaves the list and frees its number and reservation.
     Exit,
@@ -61,7 +77,7 @@ impl Reason {
 /// What an accepted dispatch decides.
 #[derive(Clone, Copy, Debug, PartialEq, Eq, Hash)]
 pub enum Dispatch {
-    /// The thread runs for at most `slice` ticks. `before` threads, all
+    /// The thread is to run for at most `slice` ticks. `before` threads, all
     /// blocked, stood before it in the list.
     Run { thread: u8, slice: u32, before: u32 },
     /// No thread is runnable; the list has `before` threads.
@@ -82,8 +98,9 @@ pub enum ThreadState {
 pub struct Entry {
     pub thread: u8,
     pub state: ThreadState,
-    /// Ticks left of its quantum.
-    pub allotment: u32,
+    /// Ticks left of its quantum, from which a debt is already taken: at least
+    /// 1 in a sound state.
+    pub allotment: i32,
     /// Thousandths of ticks that it is behind its reservation; below 0 it is
     /// ahead.
     pub lag: i64,
@@ -139,21 +156,17 @@ pub struct Scheduler {
 impl Default for Scheduler {
     /// A scheduler with the default settings, which are in their ranges.
     fn default() -> Self {
-        let Settings {
-            thousandth,
-            interval,
-        } = Settings::default();
         Scheduler {
-            state: numbers::start(thousandth.into(), interval.into()).state,
+            state: start(Settings::default()).state,
         }
     }
 }
 
 impl Scheduler {
     /// A scheduler with no threads and group 0 open. Refused with
-    /// [`Settings`](Refusal::Settings).
+    /// [`Settings`](Refusal::Settings) if one of them is outside its range.
     pub fn new(settings: Settings) -> Result<Scheduler, Refusal> {
-        let reply = numbers::start(settings.thousandth.into(), settings.interval.into());
+        let reply = start(settings);
         accepted(reply.answer)?;
         Ok(Scheduler { state: reply.state })
     }
@@ -224,6 +237,29 @@ impl Scheduler {
     /// Charges the running thread the ticks used and ends its run. Refused with
     /// [`NothingRunning`](Refusal::NothingRunning) or
     /// [`OverSlice`](Refusal::OverSlice).
+    ///
+    /// What is used beyond the slice is an overrun; the setting
+    /// [`overrun`](Settings::overrun) limits it. All ticks used are charged.
+    /// Where they exceed the allotment the thread is in debt: it moves to the
+    /// rear, and its next allotment is its quantum less the debt.
+    ///
+    /// ```
+    /// use mtr::{Dispatch, Reason, Refusal, Scheduler, Settings};
+    ///
+    /// let settings = Settings { thousandth: 10, interval: 1000, overrun: 9 };
+    /// let mut scheduler = Scheduler::new(settings)?;
+    /// scheduler.admit(5, 0, 10)?;
+    /// let run = |slice| Dispatch::Run { thread: 5, slice, before: 0 };
+    ///
+    /// assert_eq!(scheduler.dispatch()?, run(100));
+    /// let late = scheduler.report(Reason::Tick, 110);
+    /// assert_eq!(late, Err(Refusal::OverSlice));
+    /// scheduler.report(Reason::Tick, 109)?;
+    ///
+    /// // It owed 9 ticks of its next 100.
+    /// assert_eq!(scheduler.dispatch()?, run(91));
+    /// # Ok::<(), Refusal>(())
+    /// ```
     pub fn report(&mut self, reason: Reason, used: u32) -> Result<(), Refusal> {
         self.take(numbers::report(
             self.state,
@@ -289,8 +325,7 @@ impl Scheduler {
     /// [`NoThread`](Refusal::NoThread).
     pub fn lag(&self, thread: u8) -> Result<i64, Refusal> {
         let lag = numbers::lag(self.state, thread.into());
-        accepted(lag.answer)?;
-        Ok(lag.lag)
+        lag.result().map_err(refused)
     }
 
     /// A thread's ticks since its admission, in thousandths of the meter's
@@ -329,16 +364,13 @@ impl Scheduler {
         Ok(&table[..filled])
     }
 
-    /// The settings, the greatest value in place of one outside its type.
+    /// The settings.
     pub fn settings(&self) -> Settings {
+        let held = self.state.settings;
         Settings {
-            thousandth: self
-                .state
-                .settings
-                .thousandth
-                .try_into()
-                .unwrap_or(u16::MAX),
-            interval: self.state.settings.interval,
+            thousandth: held.thousandth,
+            interval: held.interval,
+            overrun: held.overrun,
         }
     }
 
@@ -376,6 +408,14 @@ impl Scheduler {
         self.state = reply.state;
         Ok(())
     }
+}
+
+fn start(settings: Settings) -> raw::Reply {
+    numbers::start(
+        settings.thousandth.into(),
+        settings.interval.into(),
+        settings.overrun.into(),
+    )
 }
 
 /// The reservation of a priority of 1 to 10: the priority plus 10. Refused with

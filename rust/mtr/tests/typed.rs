@@ -9,6 +9,7 @@ use mtr::{
 const DEFAULT: Settings = Settings {
     thousandth: 100,
     interval: 20_000,
+    overrun: 0,
 };
 
 fn run(thread: u8, slice: u32, before: u32) -> Dispatch {
@@ -209,18 +210,25 @@ fn numbers_and_names() {
 fn settings() {
     assert_eq!(Settings::default(), DEFAULT);
     assert_eq!(Scheduler::new(DEFAULT), Ok(Scheduler::default()));
-    for (thousandth, interval, accepted) in [
-        (1, 1, true),
-        (1000, 1_000_000, true),
-        (0, 1, false),
-        (1001, 1, false),
-        (1, 0, false),
-        (1, 1_000_001, false),
-        (u16::MAX, u32::MAX, false),
+    for (thousandth, interval, overrun, accepted) in [
+        (1, 1, 0, true),
+        (1, 1, 1, false),
+        (10, 1, 9, true),
+        (10, 1, 10, false),
+        (1000, 1_000_000, 0, true),
+        (1000, 1_000_000, 999, true),
+        (1000, 1_000_000, 1000, false),
+        (0, 1, 0, false),
+        (1001, 1, 0, false),
+        (1, 0, 0, false),
+        (1, 1_000_001, 0, false),
+        (1000, 1, u16::MAX, false),
+        (u16::MAX, u32::MAX, u16::MAX, false),
     ] {
         let settings = Settings {
             thousandth,
             interval,
+            overrun,
         };
         let started = Scheduler::new(settings);
         match accepted {
@@ -230,13 +238,85 @@ fn settings() {
     }
     // A refused start leaves the scheduler that it was to replace.
     let mut s = with(&[(3, 10)]);
-    let bad = Settings {
-        thousandth: 0,
-        interval: 1,
-    };
-    refused(&mut s, Refusal::Settings, |s| s.call(Event::Start(bad)));
+    for (thousandth, overrun) in [(0, 0), (1, 1)] {
+        let bad = Settings {
+            thousandth,
+            interval: 1,
+            overrun,
+        };
+        refused(&mut s, Refusal::Settings, |s| s.call(Event::Start(bad)));
+    }
     assert_eq!(s.call(Event::Start(DEFAULT)), Ok(None));
     assert_eq!(s, Scheduler::default());
+}
+
+/// m = 10, P = 1000 and O = 9: the quantum of thread 5 is 100.
+fn late() -> Scheduler {
+    let mut s = Scheduler::new(Settings {
+        thousandth: 10,
+        interval: 1000,
+        overrun: 9,
+    })
+    .unwrap();
+    s.admit(5, 0, 10).unwrap();
+    s
+}
+
+/// The thread's allotment in the roster.
+fn allotment(s: &Scheduler, thread: u8) -> i32 {
+    let mut table = [Entry::default(); 64];
+    let mut rows = s.roster(&mut table).unwrap().iter();
+    rows.find(|e| e.thread == thread).unwrap().allotment
+}
+
+/// A debt shortens the next slice, whatever the reason of the report is, and all ticks are charged.
+#[test]
+fn overruns() {
+    let mut s = late();
+    assert_eq!(s.dispatch(), Ok(run(5, 100, 0)));
+    refused(&mut s, Refusal::OverSlice, |s| s.report(Reason::Tick, 110));
+    s.report(Reason::Tick, 109).unwrap();
+    assert_eq!((s.meter(), allotment(&s, 5)), (109, 91));
+    assert_eq!(s.dispatch(), Ok(run(5, 91, 0)));
+    refused(&mut s, Refusal::OverSlice, |s| s.report(Reason::Tick, 101));
+    s.report(Reason::Yield, 95).unwrap();
+    assert_eq!((s.meter(), allotment(&s, 5)), (204, 96));
+    assert_eq!(s.share(5), Ok(1000));
+
+    // Nothing left is no debt; a yield with something left fills the allotment.
+    s.dispatch().unwrap();
+    s.report(Reason::Tick, 96).unwrap();
+    assert_eq!(allotment(&s, 5), 100);
+    s.dispatch().unwrap();
+    s.report(Reason::Yield, 99).unwrap();
+    assert_eq!(allotment(&s, 5), 100);
+
+    // A thread that blocks in debt is at the rear with the rest of its quantum, and keeps it when it is woken.
+    s.admit(6, 0, 200).unwrap();
+    assert_eq!(s.dispatch(), Ok(run(5, 100, 0)));
+    s.report(Reason::Block, 101).unwrap();
+    assert_eq!((s.list(), allotment(&s, 5)), (&[6, 5][..], 99));
+    s.wake(5).unwrap();
+    assert_eq!((s.list(), allotment(&s, 5)), (&[6, 5][..], 99));
+
+    // Beyond a slice of P the allotment has room: an overrun without a debt.
+    assert_eq!(s.dispatch(), Ok(run(6, 1000, 0)));
+    s.report(Reason::Tick, 1009).unwrap();
+    assert_eq!((s.list(), allotment(&s, 6)), (&[6, 5][..], 991));
+    assert_eq!(s.dispatch(), Ok(run(6, 991, 0)));
+    s.report(Reason::Exit, 1000).unwrap();
+    assert_eq!(s.list(), [5]);
+    assert!(s.is_sound());
+}
+
+/// Without an overrun limit a slice is all that a report may use.
+#[test]
+fn punctual() {
+    let mut s = with(&[(5, 10)]);
+    assert_eq!(s.dispatch(), Ok(run(5, 1000, 0)));
+    refused(&mut s, Refusal::OverSlice, |s| s.report(Reason::Exit, 1001));
+    s.report(Reason::Tick, 1000).unwrap();
+    assert_eq!(allotment(&s, 5), 1000);
 }
 
 #[test]
@@ -354,7 +434,7 @@ fn meter_at_its_limit() {
 fn unsound_states_are_refused() {
     let mut state = *with(&[(1, 10)]).as_raw();
     state.count = 65;
-    state.settings.thousandth = 70_000;
+    state.settings.thousandth = u16::MAX;
     let mut s = Scheduler::from_raw(state);
     assert!(!s.is_sound());
     refused(&mut s, Refusal::Unsound, |s| s.open(1, 0, 1));
@@ -410,6 +490,7 @@ const KINDS: [Event; 8] = [
     Event::Start(Settings {
         thousandth: 65_533,
         interval: u32::MAX - 1,
+        overrun: 65_532,
     }),
 ];
 
@@ -463,7 +544,7 @@ fn records() {
     }
     let mut counts = [0; 2];
     for kind in 0..=255 {
-        for fields in 0..32u8 {
+        for fields in 0..64u8 {
             let used = |bit: u8| fields >> bit & 1;
             let record = raw::Record {
                 kind,
@@ -471,7 +552,8 @@ fn records() {
                 group: used(1),
                 reason: used(2),
                 amount: used(3).into(),
-                ticks: used(4).into(),
+                overrun: used(4).into(),
+                ticks: used(5).into(),
             };
             let answer = numbers::write_block(&mut [0; blocks::BYTES], 0, &[record]);
             let event = Event::try_from(record);
@@ -482,9 +564,9 @@ fn records() {
             counts[(answer == 0) as usize] += 1;
         }
     }
-    // Kinds use 3, 1, 3, 1, 1, 0, 2 and 2 fields.
-    assert_eq!(counts[1], 8 + 2 + 8 + 2 + 2 + 1 + 4 + 4);
-    assert_eq!(counts[0] + counts[1], 256 * 32);
+    // Kinds use 3, 1, 3, 1, 1, 0, 2 and 3 fields.
+    assert_eq!(counts[1], 8 + 2 + 8 + 2 + 2 + 1 + 4 + 8);
+    assert_eq!(counts[0] + counts[1], 256 * 64);
 }
 
 /// A scheduler whose calls are journalled.
