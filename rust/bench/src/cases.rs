@@ -85,7 +85,7 @@ fn on(
 fn cases(call: &str) -> Vec<Case> {
     match call {
         "start" => vec![case("-".into(), "the defaults".into(), || {
-            numbers::start(black_box(100), black_box(20_000)).answer
+            numbers::start(black_box(100), black_box(20_000), black_box(0)).answer
         })],
         "priority" => vec![case("-".into(), "normal".into(), || {
             numbers::priority(black_box(5)).answer
@@ -193,7 +193,7 @@ fn report(n: u64, deep: bool, cases: &mut Vec<Case>) {
     }
     for (place, at) in [("front", 0), ("rear", n - 1)] {
         let mut s = running(n, deep, at);
-        let quantum = reservation(n) as u32 * s.settings.thousandth;
+        let quantum = reservation(n) as u32 * s.settings.thousandth as u32;
         // The whole quantum fits one slice.
         s.settings.interval = quantum;
         let whole = quantum as u64;

@@ -13,9 +13,7 @@ const ROUNDS: usize = 5;
 
 fn call(state: &Scheduler, rng: &mut Rng, threads: u64) -> Call {
     if state.running != 64 {
-        let slice = state.threads[state.running as usize]
-            .allotment
-            .min(state.settings.interval) as u64;
+        let slice = state.threads[state.running as usize].slice(&state.settings) as u64;
         let reason = u64::from(rng.chance(1, 8));
         let used = rng.range(0, slice);
         return Call::Report { reason, used };
@@ -30,7 +28,7 @@ fn call(state: &Scheduler, rng: &mut Rng, threads: u64) -> Call {
 /// A journal of so many records: a start, the admissions, then dispatches, reports and wakes, all accepted.
 fn journal(threads: u64, records: usize) -> Vec<u8> {
     let mut rng = Rng::new(threads);
-    let mut state = Scheduler::start(10, 5000).unwrap();
+    let mut state = Scheduler::start(10, 5000, 0).unwrap();
     let mut list: Vec<Record> = vec![Record {
         kind: 8,
         amount: 10,

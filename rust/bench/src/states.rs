@@ -94,6 +94,7 @@ pub fn records() -> [Record; RECORDS] {
             group: if uses.group { i / 2 } else { 0 },
             reason: if uses.reason { i % 4 } else { 0 },
             amount: if uses.amount { 20 * i as u16 } else { 0 },
+            overrun: if uses.overrun { i as u16 } else { 0 },
             ticks: if uses.ticks { 20_000 } else { 0 },
         }
     })
