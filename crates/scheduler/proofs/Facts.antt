@@ -19,7 +19,7 @@ use Rattle.scheduler.specs.declared.Thread.{Thread}
 use Rattle.scheduler.specs.declared.Settings.{Settings}
 use Rattle.scheduler.specs.declared.Scheduler.{Scheduler}
 use Rattle.scheduler.specs.State.{noThread, isAdmitted, threadAt, groupAt, admittedAt, reservedAt, reservationAt, allotmentAt, openAt}
-use Rattle.scheduler.specs.State.{meterLimit, meterMost, sliceMost}
+use Rattle.scheduler.specs.State.{natOf, meterLimit, meterMost, sliceMost}
 use Rattle.scheduler.specs.State.{listed, runnableAt, withThread, withList}
 use Rattle.scheduler.specs.Sound.{settingsOk, quotaOk, accountOk, load, groupOk, groupsOk, threadOk, listOk, runningOk, shapeOk}
 use Rattle.scheduler.specs.Sound.{sound}
@@ -29,8 +29,8 @@ use Rattle.scheduler.specs.Effects.{join}
 pub record Fit (t : Thread) (m : ℕ) : Type 0 where
   pub positive : 1 ≤ t .reservation
   pub at-most : t .reservation ≤ 1000
-  pub some : 1 ≤ t .allotment
-  pub bounded : t .allotment ≤ t .reservation * m
+  pub some : 1 ≤ natOf (t .allotment)
+  pub bounded : natOf (t .allotment) ≤ t .reservation * m
 
 -- an admitted thread's account
 pub record Account (t : Thread) (meter : ℕ) : Type 0 where
@@ -161,8 +161,8 @@ thread-of s n small t r =
       fit = record {
         positive = leb→le 1 (th .reservation) (search (and-l, and-r) depth 12);
         at-most = leb→le (th .reservation) 1000 (search (and-l, and-r) depth 12);
-        some = leb→le 1 (th .allotment) (search (and-l, and-r) depth 12);
-        bounded = leb→le (th .allotment) (th .reservation * s .settings .thousandth) (search (and-l, and-r) depth 12);
+        some = leb→le 1 (natOf (th .allotment)) (search (and-l, and-r) depth 12);
+        bounded = leb→le (natOf (th .allotment)) (th .reservation * s .settings .thousandth) (search (and-l, and-r) depth 12);
       };
     }
 
@@ -364,13 +364,14 @@ pub carries : (s : Scheduler) → Facts s → (g : ℕ) → T (openAt s g) → l
 carries s k g o = (k .group g (open-small s g o) o) .carries
 
 pub settings-facts : (z : Settings) → T (settingsOk z)
-    → (1 ≤ z .thousandth) × (z .thousandth ≤ 1000) × (1 ≤ z .interval) × (z .interval ≤ sliceMost)
+    → (1 ≤ z .thousandth) × (z .thousandth ≤ 1000) × (1 ≤ z .interval) × (z .interval ≤ sliceMost) × (z .overrun < z .thousandth)
 unfolding settingsOk within
 settings-facts z t = (
   leb→le 1 (z .thousandth) (search (and-l, and-r)),
   leb→le (z .thousandth) 1000 (search (and-l, and-r)),
   leb→le 1 (z .interval) (search (and-l, and-r)),
   leb→le (z .interval) sliceMost (search (and-l, and-r)),
+  ltb→lt (z .overrun) (z .thousandth) (search (and-l, and-r)),
 )
 
 -- a check that has passed

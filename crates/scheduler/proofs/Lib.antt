@@ -1,3 +1,4 @@
+pub mod Debt
 pub mod Facts
 pub mod Passed
 pub mod Steps

@@ -10,10 +10,9 @@ use borrow.Author.Tests.{eqb-true, eqb-false, ltb-false, leb-false, not-false}
 use Rattle.base.specs.Checks.{within, _⇒_, firstOf}
 use Rattle.base.specs.Lists.{everyBelow}
 use Rattle.base.proofs.Bools.{cases, and-l, and-r, holds, or-false-l, or-false-r}
-use Rattle.scheduler.specs.declared.Thread.{Thread}
 use Rattle.scheduler.specs.declared.Scheduler.{Scheduler}
-use Rattle.scheduler.specs.State.{threadAt, admittedAt, openAt, sliceAt, meterLimit, sliceMost}
-use Rattle.scheduler.specs.Sound.{threadIn, childOf, sound}
+use Rattle.scheduler.specs.State.{threadAt, admittedAt, openAt, usedMost, meterLimit}
+use Rattle.scheduler.specs.Sound.{settingsOk, threadIn, childOf, sound}
 use Rattle.scheduler.specs.Refusals.{Call, openGroup, closeGroup, admit, remove, wake, dispatch, report, free, inUse, checks, refusal}
 use Rattle.scheduler.specs.Refusals.{startRefusal}
 use Rattle.scheduler.specs.Effects.{toRear, renewed, charged, exited, reported}
@@ -58,13 +57,13 @@ dispatch-passed s e =
     eqb-true (s .running) 64 (not-false (eqb (s .running) 64) (c1 .0))
 
 pub report-passed : (s : Scheduler) (reason used : ℕ) → firstOf (checks (report reason used) s) ≡ 0
-    → (s .running ≡ 64 → ⊥) × (used ≤ sliceAt s (s .running))
+    → (s .running ≡ 64 → ⊥) × (used ≤ usedMost s (s .running))
 unfolding checks
 report-passed s reason used e =
     let c1 = peel (eqb (s .running) 64 ⇒ 11) _ (lit< tt) e in
     let c2 = peel (ltb 3 reason ⇒ 14) _ (lit< tt) (c1 .1) in
-    let c3 = peel (ltb (sliceAt s (s .running)) used ⇒ 13) _ (lit< tt) (c2 .1) in
-    (eqb-false (s .running) 64 (c1 .0), ltb-false (sliceAt s (s .running)) used (c3 .0))
+    let c3 = peel (ltb (usedMost s (s .running)) used ⇒ 13) _ (lit< tt) (c2 .1) in
+    (eqb-false (s .running) 64 (c1 .0), ltb-false (usedMost s (s .running)) used (c3 .0))
 
 pub dispatch-early : (s : Scheduler) → firstOf (checks dispatch s) ≡ 0 → s .meter < meterLimit
 unfolding checks
@@ -147,7 +146,7 @@ close-ok s n e =
       no-child = holds b (not-false b (or-false-r (not a) (not b) (c2 .0)));
     }
 
--- The three ways a report can end: in its place with what is left, at the rear with a full allotment, or off the list.
+-- The three ways a report can end: in its place with what is left, at the rear with a renewed allotment, or off the list.
 
 pub reported-kept : (r reason used : ℕ) (s : Scheduler) → eqb reason 3 ≡ false → renewed reason used (threadAt s r) ≡ false
     → reported r reason used s ≡ charged r reason used s
@@ -176,17 +175,9 @@ reported-cases P r reason used s off rear kept =
     (λ q. subst P (sym (reported-rear r reason used s e q)) (rear e q))
     (λ q. subst P (sym (reported-kept r reason used s e q)) (kept e q)))
 
--- a thread that is not renewed has something left
-pub not-used-up : (reason used : ℕ) (t : Thread) → renewed reason used t ≡ false → used < t .allotment
-unfolding renewed
-not-used-up reason used t e = leb-false (t .allotment) used (or-false-r (eqb reason 2) (leb (t .allotment) used) e)
-
--- an accepted start
-pub start-passed : (m p : ℕ) → startRefusal m p ≡ 0 → T (within 1 1000 m) × T (within 1 sliceMost p)
+-- an accepted start has sound settings
+pub start-passed : (m p o : ℕ) → startRefusal m p o ≡ 0 → T (settingsOk (record { interval = p; thousandth = m; overrun = o }))
 unfolding startRefusal
-start-passed m p e =
-    let c = peel (not (within 1 1000 m) || not (within 1 sliceMost p) ⇒ 1) [] (lit< tt) e in (
-      holds (within 1 1000 m) (not-false (within 1 1000 m) (or-false-l (not (within 1 1000 m)) (not (within 1 sliceMost p)) (c .0))),
-      holds (within 1 sliceMost p) (not-false (within 1 sliceMost p)
-          (or-false-r (not (within 1 1000 m)) (not (within 1 sliceMost p)) (c .0))),
-    )
+start-passed m p o e =
+    let ok = settingsOk (record { interval = p; thousandth = m; overrun = o }) in
+    holds ok (not-false ok ((peel (not ok ⇒ 1) [] (lit< tt) e) .0))

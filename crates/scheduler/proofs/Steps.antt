@@ -1,8 +1,9 @@
 -- Small laws of the definitions: the state after a call, accepted or refused, by cases on its refusal; the meter after a call, the list
 -- after a wake, the chosen thread; and a thread's allotment and slice after a thread is replaced, charged or woken, read off the table.
-use Prim.Native.Nat.{ℕ, _+_, _-_, _*_, min, _<_}
+use Prim.Native.Nat.{ℕ, _+_, _-_, _*_, min, _≤_, _<_}
 use mathlib.Core.Path.{_≡_, refl, ap, _∙_}
-use mathlib.Core.Bool.{Bool, true, false, cond}
+use mathlib.Core.Bool.{true, false}
+use native.Mathlib.Nat.{min-le-right}
 use native.Mathlib.Omega.{arith}
 use lib.ListN.{length}
 use lib.Dec.{T, eqb}
@@ -12,14 +13,16 @@ use Rattle.base.proofs.Bools.{by}
 use Rattle.base.proofs.Lists.{first-found}
 use Rattle.scheduler.specs.declared.Thread.{Thread}
 use Rattle.scheduler.specs.declared.Scheduler.{Scheduler}
-use Rattle.scheduler.specs.State.{threadAt, admittedAt, runnableAt, reservationAt, allotmentAt, listed, sliceAt, withThread}
-use Rattle.scheduler.specs.State.{withGroup, withList, withRun}
+use Rattle.scheduler.specs.State.{natOf, threadAt, admittedAt, runnableAt, reservationAt, allotmentAt, listed, sliceAt, usedMost}
+use Rattle.scheduler.specs.State.{chargeMost, withThread, withGroup, withList, withRun}
 use Rattle.scheduler.specs.Refusals.{Call, openGroup, closeGroup, admit, remove, wake, dispatch, report, refusal}
-use Rattle.scheduler.specs.Effects.{toRear, offList, join, wokenThread, renewed, chargedThread, charged, exited, chosen, effect}
+use Rattle.scheduler.specs.Effects.{toRear, offList, join, wokenThread, usedUp, renewed, chargedThread, charged, exited, chosen}
+use Rattle.scheduler.specs.Effects.{effect}
 use Rattle.scheduler.specs.Rule.{accept, refuse, step}
 use Rattle.scheduler.specs.Stretch.{ticksOf}
-use Rattle.scheduler.proofs.Facts.{Facts, in-threads, thread-other, thread-same}
-use Rattle.scheduler.proofs.Passed.{not-used-up, reported-cases}
+use Rattle.scheduler.proofs.Debt.{debt-after, filled-after, kept-after}
+use Rattle.scheduler.proofs.Facts.{Facts, in-threads, thread-other, thread-same, settings-facts}
+use Rattle.scheduler.proofs.Passed.{reported-cases}
 
 -- the state after a call, accepted or refused
 pub step-state : (c : Call) (s : Scheduler) → refusal c s ≡ 0 → step c s ≡ accept c s
@@ -57,39 +60,46 @@ pub chosen-runnable : (s : Scheduler) → (chosen s ≡ 64 → ⊥) → T (membe
 unfolding chosen
 chosen-runnable s ne = first-found (runnableAt s) (listed s) ne
 
+-- the most that a report may use, whatever the settings
+pub charge-most : (s : Scheduler) → Facts s → (n : ℕ) → usedMost s n ≤ chargeMost
+unfolding usedMost sliceAt
+charge-most s k n =
+    let z = settings-facts (s .settings) (k .settings) in
+    omega (arith, z .1, z .3, z .4, min-le-right (allotmentAt s n) (s .settings .interval))
+
 -- allotments after a change of one thread
 pub allotment-other : (s : Scheduler) (n : ℕ) (t : Thread) (j : ℕ) → (j ≡ n → ⊥) → allotmentAt (withThread s n t) j ≡ allotmentAt s j
 unfolding allotmentAt
-allotment-other s n t j a = ap (λ (t : Thread). t .allotment) (thread-other s n t j a)
+allotment-other s n t j a = ap (λ (t : Thread). natOf (t .allotment)) (thread-other s n t j a)
 
 pub slice-other : (s : Scheduler) (n : ℕ) (t : Thread) (j : ℕ) → (j ≡ n → ⊥) → sliceAt (withThread s n t) j ≡ sliceAt s j
 unfolding sliceAt withThread
 slice-other s n t j a = ap (λ (z : ℕ). min z (s .settings .interval)) (allotment-other s n t j a)
 
-pub allotment-same : (s : Scheduler) (n : ℕ) (t : Thread) → n < length (s .threads) → allotmentAt (withThread s n t) n ≡ t .allotment
+pub allotment-same : (s : Scheduler) (n : ℕ) (t : Thread) → n < length (s .threads)
+    → allotmentAt (withThread s n t) n ≡ natOf (t .allotment)
 unfolding allotmentAt
-allotment-same s n t h = ap (λ (t : Thread). t .allotment) (thread-same s n t h)
+allotment-same s n t h = ap (λ (t : Thread). natOf (t .allotment)) (thread-same s n t h)
 
-pub charged-allotment : (s : Scheduler) (r reason used : ℕ) → r < length (s .threads)
-    → allotmentAt (withThread s r (chargedThread s reason used (threadAt s r))) r
-    ≡ cond (renewed reason used (threadAt s r)) (reservationAt s r * s .settings .thousandth) (allotmentAt s r - used)
-unfolding chargedThread reservationAt allotmentAt
-charged-allotment s r reason used h = allotment-same s r (chargedThread s reason used (threadAt s r)) h
-
--- the charged thread: what is left, or a full allotment
+-- the charged thread: what is left; or, used up, that and the quantum; or, filled by a yield, the quantum
 pub charged-left : (s : Scheduler) (r reason used : ℕ) → r < length (s .threads) → renewed reason used (threadAt s r) ≡ false
     → allotmentAt (withThread s r (chargedThread s reason used (threadAt s r))) r + used ≡ allotmentAt s r
 unfolding chargedThread allotmentAt
 charged-left s r reason used h e =
-    let q =
-    charged-allotment s r reason used h ∙ ap (λ (b : Bool). cond b (reservationAt s r * s .settings .thousandth) (allotmentAt s r - used))
-    e in
-    omega (arith, q, not-used-up reason used (threadAt s r) e)
+    ap (λ (a : ℕ). a + used) (allotment-same s r (chargedThread s reason used (threadAt s r)) h) ∙ kept-after used (threadAt s r) s reason e
 
-pub charged-full : (s : Scheduler) (r reason used : ℕ) → r < length (s .threads) → renewed reason used (threadAt s r) ≡ true
-    → allotmentAt (withThread s r (chargedThread s reason used (threadAt s r))) r ≡ reservationAt s r * s .settings .thousandth
-charged-full s r reason used h e =
-    charged-allotment s r reason used h ∙ ap (λ (b : Bool). cond b (reservationAt s r * s .settings .thousandth) (allotmentAt s r - used)) e
+pub charged-debt : (s : Scheduler) (r reason used : ℕ) → r < length (s .threads) → 1 ≤ allotmentAt s r → usedUp used (threadAt s r) ≡ true
+    → allotmentAt (withThread s r (chargedThread s reason used (threadAt s r))) r
+    ≡ allotmentAt s r + reservationAt s r * s .settings .thousandth - used
+unfolding chargedThread allotmentAt reservationAt
+charged-debt s r reason used h some e =
+    allotment-same s r (chargedThread s reason used (threadAt s r)) h ∙ debt-after used (threadAt s r) s reason some e
+
+pub charged-filled : (s : Scheduler) (r used : ℕ) → r < length (s .threads) → usedUp used (threadAt s r) ≡ false
+    → allotmentAt (withThread s r (chargedThread s 2 used (threadAt s r))) r ≡ reservationAt s r * s .settings .thousandth
+unfolding chargedThread allotmentAt reservationAt
+charged-filled s r used h e =
+    allotment-same s r (chargedThread s 2 used (threadAt s r)) h ∙ filled-after used (threadAt s r) s e
 
 pub woken-allotment : (s : Scheduler) → Facts s → (n : ℕ) → T (admittedAt s n) → (j : ℕ)
     → allotmentAt (withThread s n (wokenThread s (threadAt s n))) j ≡ allotmentAt s j
