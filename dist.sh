@@ -174,9 +174,11 @@ C, with this folder as vendor/mtr:
     #include <mtr.h>
 
     static mtr_scheduler state;
-    mtr_answer answer = mtr_start(&state, MTR_DEFAULT_THOUSANDTH, MTR_DEFAULT_INTERVAL);
+    mtr_answer answer = mtr_start(&state, MTR_DEFAULT_THOUSANDTH, MTR_DEFAULT_INTERVAL, MTR_DEFAULT_OVERRUN);
     if (answer == MTR_ACCEPTED)
         answer = mtr_admit(&state, 5, 0, 500);
+
+The last setting is the overrun limit: the ticks that a report may use beyond its slice, where the timer that ends it fires late.
 
 CMake, with -DCMAKE_PREFIX_PATH=vendor/mtr (a whole path):
 
@@ -188,9 +190,9 @@ Rust, in Cargo.toml (the build script finds ../lib/libmtr.a):
     [dependencies]
     mtr = { path = "vendor/mtr/rust" }
 
-    use mtr::Scheduler;
+    use mtr::{Scheduler, Settings};
 
-    let mut scheduler = Scheduler::default();
+    let mut scheduler = Scheduler::new(Settings { overrun: 50, ..Settings::default() })?;
     scheduler.admit(5, 0, 500)?;
 
 The example host, and its journal replayed:

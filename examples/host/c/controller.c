@@ -1,13 +1,14 @@
 /*
  * A controller's main loop on a virtual clock, in C: readout, pumps, the lab's viewer and an exporter that waits for a
- * server whose replies come sooner or later. Every call of the scheduler is journalled into event blocks.
+ * server whose replies come sooner or later, under a timer that fires up to 50 ticks late. Every call of the scheduler is
+ * journalled into event blocks.
  *
  *     cc -std=c11 -O2 -Iinclude examples/host/c/controller.c target/staticlib/libabi.a -o target/controller
  *     target/controller SEED JOURNAL [MILLISECONDS]
  *
  * Standard output has a line for each call, as mtrrun prints it for the call's record (number, answer, thread, slice,
- * threads before it), and at the end the roster. `target/bin/mtrrun < JOURNAL` prints the same lines but for the roster.
- * examples/host/rust is the same host in Rust.
+ * threads before it), and at the end the roster and each thread's largest debt. `target/bin/mtrrun < JOURNAL` prints the
+ * same lines but for roster and debts. examples/host/rust is the same host in Rust.
  */
 #include <errno.h>
 #include <inttypes.h>
@@ -66,7 +67,7 @@ static mtr_answer make(mtr_scheduler *state, const mtr_record *r, mtr_run *run)
     case MTR_KIND_REPORT:
         return mtr_report(state, r->reason, r->ticks);
     default:
-        return mtr_start(state, r->amount, r->ticks);
+        return mtr_start(state, r->amount, r->ticks, r->overrun);
     }
 }
 
@@ -92,9 +93,9 @@ static void tell(host *h, mtr_record r)
     call(h, r, &none);
 }
 
-static void start(host *h, uint16_t thousandth, uint32_t interval)
+static void start(host *h, uint16_t thousandth, uint32_t interval, uint16_t overrun)
 {
-    tell(h, (mtr_record){ .kind = MTR_KIND_START, .amount = thousandth, .ticks = interval });
+    tell(h, (mtr_record){ .kind = MTR_KIND_START, .amount = thousandth, .overrun = overrun, .ticks = interval });
 }
 
 static void open_group(host *h, uint8_t group, uint8_t parent, uint16_t ceiling)
@@ -132,12 +133,21 @@ static void report(host *h, uint8_t reason, uint32_t used)
     tell(h, (mtr_record){ .kind = MTR_KIND_REPORT, .reason = reason, .ticks = used });
 }
 
+/* Ticks left of a thread's quantum. */
+static int32_t allotment(const host *h, unsigned thread)
+{
+    return h->state.threads[thread].allotment;
+}
+
 /* ---- the simulated threads ---- */
 
 enum { READOUT, PUMPS, VIEWER, EXPORTER, SELF_TEST, TASKS };
 
 /* The lab's side of the controller, in a group of its own. */
 enum { LAB = 1, LAB_CEILING = 300 };
+
+/* The most ticks that the timer fires after the end of a slice: the overrun limit that the scheduler is started with. */
+enum { LATEST = 50 };
 
 /*
  * A thread works for a burst of ticks, ends it for the reason given and, if it blocked, is woken after a pause. One pause of
@@ -161,12 +171,19 @@ static const task tasks[TASKS] = {
 
 static const uint64_t NEVER = UINT64_MAX;
 
+/* What a thread used beyond its allotment, and the allotment that it then had: its quantum less the debt. */
+typedef struct debt {
+    int32_t owed, left;
+} debt;
+
 typedef struct world {
     uint64_t clock;
     uint64_t random;
     /* Ticks left of each task's burst, and when it is woken. */
     uint32_t left[TASKS];
     uint64_t due[TASKS];
+    /* The largest debt of each. */
+    debt debts[TASKS];
 } world;
 
 /* SplitMix64, from low to high. */
@@ -195,8 +212,9 @@ static void admit_task(host *h, world *w, unsigned n)
 /* Power-up, and mistakes that a host can make: each of those is refused and changes nothing. */
 static void boot(host *h, world *w)
 {
-    start(h, 0, MTR_DEFAULT_INTERVAL);
-    start(h, MTR_DEFAULT_THOUSANDTH, MTR_DEFAULT_INTERVAL);
+    start(h, 0, MTR_DEFAULT_INTERVAL, 0);
+    start(h, MTR_DEFAULT_THOUSANDTH, MTR_DEFAULT_INTERVAL, MTR_DEFAULT_THOUSANDTH);
+    start(h, MTR_DEFAULT_THOUSANDTH, MTR_DEFAULT_INTERVAL, LATEST);
     mtr_run idle;
     dispatch(h, &idle);
     report(h, MTR_REASON_TICK, 1);
@@ -231,7 +249,7 @@ static void confuse(host *h, uint8_t running, uint32_t slice)
     wake(h, running);
     remove_thread(h, running);
     report(h, MTR_REASON_EXIT + 1, 0);
-    report(h, MTR_REASON_TICK, slice + 1);
+    report(h, MTR_REASON_TICK, slice + LATEST + 1);
 }
 
 static uint64_t next_due(const world *w)
@@ -243,25 +261,39 @@ static uint64_t next_due(const world *w)
     return next;
 }
 
-/* Runs the thread until its slice or its burst ends or another is to be woken, and reports. */
+/* Reports all ticks that the running thread used, those beyond its slice too, and notes what it owes for them. */
+static void end_run(host *h, world *w, unsigned n, uint8_t reason, uint32_t used)
+{
+    const int32_t owed = (int32_t)used - allotment(h, n);
+    report(h, reason, used);
+    if (owed > w->debts[n].owed)
+        w->debts[n] = (debt){ owed, allotment(h, n) };
+}
+
+/*
+ * Runs the thread until the timer fires, its burst ends or another is to be woken, and reports. The timer is set to the
+ * end of the slice and fires some ticks later.
+ */
 static void run(host *h, world *w, unsigned n, uint32_t slice)
 {
     const task *t = &tasks[n];
-    uint32_t used = slice < w->left[n] ? slice : w->left[n];
+    uint32_t used = slice + between(w, 0, LATEST);
+    if (w->left[n] < used)
+        used = w->left[n];
     uint64_t next = next_due(w);
     if (next - w->clock < used)
         used = (uint32_t)(next - w->clock);
     w->clock += used;
     if (t->burst_high == 0) {
-        report(h, MTR_REASON_TICK, used);
+        end_run(h, w, n, MTR_REASON_TICK, used);
         return;
     }
     w->left[n] -= used;
     if (w->left[n] > 0) {
-        report(h, MTR_REASON_TICK, used);
+        end_run(h, w, n, MTR_REASON_TICK, used);
         return;
     }
-    report(h, t->reason, used);
+    end_run(h, w, n, t->reason, used);
     begin_burst(w, n);
     if (t->reason == MTR_REASON_BLOCK) {
         uint32_t pause = between(w, t->pause_low, t->pause_high);
@@ -314,8 +346,15 @@ static void print_roster(const host *h)
     if (answer != MTR_ACCEPTED)
         fail(mtr_answer_text(answer));
     for (size_t i = 0; i < filled; i++)
-        printf("roster %" PRIu32 " %s %" PRIu32 " %" PRId64 " %" PRIu32 "\n", table[i].number, states[table[i].state],
+        printf("roster %" PRIu32 " %s %" PRId32 " %" PRId64 " %" PRIu32 "\n", table[i].number, states[table[i].state],
             table[i].allotment, table[i].lag, table[i].share);
+}
+
+static void print_debts(const world *w)
+{
+    for (unsigned n = 0; n < TASKS; n++)
+        if (w->debts[n].owed > 0)
+            printf("debt %u %" PRId32 " %" PRId32 "\n", n, w->debts[n].owed, w->debts[n].left);
 }
 
 /* Reads a whole number, decimal. */
@@ -340,7 +379,7 @@ int main(int argc, char **argv)
     if (mtr_version() != MTR_VERSION)
         fail("the library is not of the header's version");
     /* A host that has a state before its first start: the first record, below, is a start that is refused. */
-    const mtr_answer answer = mtr_start(&h.state, MTR_DEFAULT_THOUSANDTH, MTR_DEFAULT_INTERVAL);
+    const mtr_answer answer = mtr_start(&h.state, MTR_DEFAULT_THOUSANDTH, MTR_DEFAULT_INTERVAL, MTR_DEFAULT_OVERRUN);
     if (answer != MTR_ACCEPTED)
         fail(mtr_answer_text(answer));
     h.journal = fopen(argv[2], "wb");
@@ -355,6 +394,7 @@ int main(int argc, char **argv)
     if (fclose(h.journal) != 0)
         fail("the journal cannot be written");
     print_roster(&h);
+    print_debts(&w);
     if (fflush(stdout) != 0)
         fail("standard output cannot be written");
     return EXIT_SUCCESS;

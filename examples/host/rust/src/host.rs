@@ -5,6 +5,14 @@ use std::io::{self, stdout, BufWriter, Stdout, Write};
 
 use mtr::{blocks, Dispatch, Entry, Event, Refusal, Scheduler, ThreadState};
 
+/// What a thread used beyond its allotment, and the allotment that it then had:
+/// its quantum less the debt.
+#[derive(Clone, Copy, Default)]
+pub struct Debt {
+    pub owed: i32,
+    pub left: i32,
+}
+
 /// Makes calls, journals each one and prints its answer.
 pub struct Host {
     scheduler: Scheduler,
@@ -58,6 +66,11 @@ impl Host {
         self.call(event)?.map_err(io::Error::other)
     }
 
+    /// Ticks left of a thread's quantum.
+    pub fn allotment(&self, thread: usize) -> i32 {
+        self.scheduler.as_raw().threads[thread].allotment
+    }
+
     /// Writes the events held as the next block.
     fn flush_block(&mut self) -> io::Result<()> {
         let mut area = [0; blocks::BYTES];
@@ -68,8 +81,8 @@ impl Host {
         Ok(())
     }
 
-    /// Writes the last block and prints the roster.
-    pub fn finish(mut self) -> io::Result<()> {
+    /// Writes the last block and prints the roster and the debts by thread.
+    pub fn finish(mut self, debts: &[Debt]) -> io::Result<()> {
         if !self.events.is_empty() {
             self.flush_block()?;
         }
@@ -88,6 +101,11 @@ impl Host {
                 self.out,
                 "roster {thread} {state} {allotment} {lag} {share}"
             )?;
+        }
+        for (thread, debt) in debts.iter().enumerate() {
+            if debt.owed > 0 {
+                writeln!(self.out, "debt {thread} {} {}", debt.owed, debt.left)?;
+            }
         }
         Ok(())
     }

@@ -1,6 +1,7 @@
 //! A controller's main loop on a virtual clock, in Rust: readout, pumps, the
 //! lab's viewer and an exporter that waits for a server whose replies come
-//! sooner or later. Every call of the scheduler is journalled into event blocks.
+//! sooner or later, under a timer that fires up to 50 ticks late. Every call of
+//! the scheduler is journalled into event blocks.
 //!
 //! ```text
 //! cargo run --release -p controller -- SEED JOURNAL [MILLISECONDS]
@@ -8,8 +9,9 @@
 //!
 //! Standard output has a line for each call, as `mtrrun` prints it for the
 //! call's record (number, answer, thread, slice, threads before it), and at the
-//! end the roster. `target/bin/mtrrun < JOURNAL` prints the same lines but for
-//! the roster. `examples/host/c` is the same host in C.
+//! end the roster and each thread's largest debt. `target/bin/mtrrun < JOURNAL`
+//! prints the same lines but for roster and debts. `examples/host/c` is the same
+//! host in C.
 
 #![forbid(unsafe_code)]
 
@@ -46,6 +48,7 @@ fn run() -> Result<(), Box<dyn Error>> {
         return Err(USAGE.into());
     };
     let mut host = Host::new(File::create(journal)?);
-    World::new(seed).simulate(&mut host, 1000 * milliseconds)?;
-    Ok(host.finish()?)
+    let mut world = World::new(seed);
+    world.simulate(&mut host, 1000 * milliseconds)?;
+    Ok(host.finish(world.debts())?)
 }

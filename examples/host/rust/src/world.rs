@@ -4,7 +4,7 @@ use std::io;
 
 use mtr::{Dispatch, Event, Reason, Settings};
 
-use crate::host::Host;
+use crate::host::{Debt, Host};
 
 const READOUT: u8 = 0;
 const VIEWER: u8 = 2;
@@ -13,6 +13,10 @@ const EXPORTER: u8 = 3;
 /// The lab's side of the controller, in a group of its own.
 const LAB: u8 = 1;
 const LAB_CEILING: u16 = 300;
+
+/// The most ticks that the timer fires after the end of a slice: the overrun
+/// limit that the scheduler is started with.
+const LATEST: u16 = 50;
 
 /// A thread works for a burst of ticks, ends it for the reason given and, if it
 /// blocked, is woken after a pause. One pause of eight is longer by the factor
@@ -81,6 +85,8 @@ pub struct World {
     left: [Option<u32>; TASKS.len()],
     /// When each task is woken.
     due: [Option<u64>; TASKS.len()],
+    /// The largest debt of each task.
+    debts: [Debt; TASKS.len()],
 }
 
 impl World {
@@ -90,7 +96,12 @@ impl World {
             random: seed,
             left: [None; TASKS.len()],
             due: [None; TASKS.len()],
+            debts: [Debt::default(); TASKS.len()],
         }
+    }
+
+    pub fn debts(&self) -> &[Debt] {
+        &self.debts
     }
 
     /// The loop: wake who is due, dispatch, run, report.
@@ -132,7 +143,10 @@ impl World {
     /// Power-up, and mistakes that a host can make: each of those is refused
     /// and changes nothing.
     fn boot(&mut self, host: &mut Host) -> io::Result<()> {
-        let settings = Settings::default();
+        let settings = Settings {
+            overrun: LATEST,
+            ..Settings::default()
+        };
         let lab = Event::Open {
             group: LAB,
             parent: 0,
@@ -141,6 +155,11 @@ impl World {
         for event in [
             Event::Start(Settings {
                 thousandth: 0,
+                overrun: 0,
+                ..settings
+            }),
+            Event::Start(Settings {
+                overrun: settings.thousandth,
                 ..settings
             }),
             Event::Start(settings),
@@ -223,12 +242,14 @@ impl World {
         self.due[thread] = None;
     }
 
-    /// Runs the thread until its slice or its burst ends or another is to be
-    /// woken, and reports.
+    /// Runs the thread until the timer fires, its burst ends or another is to be
+    /// woken, and reports. The timer is set to the end of the slice and fires
+    /// some ticks later.
     fn run(&mut self, host: &mut Host, thread: u8, slice: u32) -> io::Result<()> {
         let n = thread as usize;
         let task = &TASKS[n];
-        let mut used = slice.min(self.left[n].unwrap_or(u32::MAX));
+        let fires = slice + self.between((0, LATEST.into()));
+        let mut used = fires.min(self.left[n].unwrap_or(u32::MAX));
         if let Some(next) = self.due.iter().flatten().min() {
             used = used.min((next - self.clock).try_into().unwrap_or(u32::MAX));
         }
@@ -240,11 +261,7 @@ impl World {
                 reason = task.reason;
             }
         }
-        let event = Event::Report {
-            reason: reason.number(),
-            used,
-        };
-        host.accepted(event)?;
+        self.end_run(host, n, reason, used)?;
         if reason != Reason::Tick {
             self.begin_burst(n);
         }
@@ -256,6 +273,19 @@ impl World {
                 1
             };
             self.due[n] = Some(self.clock + (pause * factor) as u64);
+        }
+        Ok(())
+    }
+
+    /// Reports all ticks that the running thread used, those beyond its slice
+    /// too, and notes what it owes for them.
+    fn end_run(&mut self, host: &mut Host, n: usize, reason: Reason, used: u32) -> io::Result<()> {
+        let owed = used as i32 - host.allotment(n);
+        let reason = reason.number();
+        host.accepted(Event::Report { reason, used })?;
+        if owed > self.debts[n].owed {
+            let left = host.allotment(n);
+            self.debts[n] = Debt { owed, left };
         }
         Ok(())
     }
@@ -283,7 +313,7 @@ fn confuse(host: &mut Host, running: u8, slice: u32) -> io::Result<()> {
         },
         Event::Report {
             reason: Reason::Tick.number(),
-            used: slice + 1,
+            used: slice + u32::from(LATEST) + 1,
         },
     ] {
         let _refused = host.call(event)?;

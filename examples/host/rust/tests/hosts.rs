@@ -1,6 +1,6 @@
 //! The host in C and the host in Rust: the same journal, byte by byte, and `mtrrun` prints for it what both were answered.
 
-use mtr::{blocks, Event, Settings};
+use mtr::{blocks, Event, Reason, Settings};
 use std::collections::BTreeMap;
 use std::fs;
 use std::path::{Path, PathBuf};
@@ -91,7 +91,7 @@ fn events(journal: &[u8]) -> Vec<Event> {
     all
 }
 
-/// A line's five numbers, or a roster line's number, allotment, lag and share.
+/// A line's five numbers, or a roster line's number, allotment, lag and share, or a debt line's number, debt and allotment.
 fn numbers(line: &str) -> Vec<i64> {
     let words = line.split(' ');
     words.filter_map(|word| word.parse().ok()).collect()
@@ -100,20 +100,31 @@ fn numbers(line: &str) -> Vec<i64> {
 const READOUT: u8 = 0;
 const F: i64 = 500;
 
+/// The settings that both hosts start with.
+fn settings() -> Settings {
+    Settings {
+        overrun: 50,
+        ..Settings::default()
+    }
+}
+
 /// What readout is owed in a journal: f × W − 1000 × S, W and S from its admission on.
 #[derive(Debug, PartialEq, Eq)]
 struct Owed {
     last: i64,
-    /// The most over a stretch of calls, from any one to any later one.
+    /// The most over a stretch of calls, from any one to any later one, f times the others' overruns in it not counted.
     most: i64,
     /// S and W.
     ticks: [i64; 2],
+    /// Overruns of the others, and of readout.
+    overruns: [i64; 2],
 }
 
 fn owed(events: &[Event], lines: &[&str]) -> Owed {
-    let mut running = None;
+    let (mut running, mut slice) = (None, 0);
     let mut admitted = false;
-    let (mut last, mut least, mut most, mut ticks) = (0, 0, 0, [0, 0]);
+    let (mut last, mut least, mut most) = (0, 0, 0);
+    let (mut ticks, mut overruns) = ([0, 0], [0, 0]);
     for (event, line) in events.iter().zip(lines) {
         let line = numbers(line);
         if line[1] != 0 {
@@ -121,20 +132,73 @@ fn owed(events: &[Event], lines: &[&str]) -> Owed {
         }
         match *event {
             Event::Admit { thread, .. } => admitted |= thread == READOUT,
-            Event::Dispatch => running = Some(line[2]),
+            Event::Dispatch => (running, slice) = (Some(line[2]), line[3]),
             Event::Report { reason, used } if admitted => {
                 let reads = running == Some(READOUT as i64);
                 assert!(!reads || reason == 0);
                 ticks[0] += if reads { used as i64 } else { 0 };
                 ticks[1] += used as i64;
+                overruns[reads as usize] += (used as i64 - slice).max(0);
                 last = F * ticks[1] - 1000 * ticks[0];
-                most = most.max(last - least);
-                least = least.min(last);
+                let level = last - F * overruns[0];
+                most = most.max(level - least);
+                least = least.min(level);
             }
             _ => {}
         }
     }
-    Owed { last, most, ticks }
+    Owed {
+        last,
+        most,
+        ticks,
+        overruns,
+    }
+}
+
+/// The largest debt of each thread in a journal, and the allotment that it left, computed from the slices and the ticks used: every
+/// slice is that of an allotment from which the debt before it is taken.
+fn debts(events: &[Event], lines: &[&str]) -> Vec<Vec<i64>> {
+    let settings = settings();
+    let (m, p) = (settings.thousandth as i64, settings.interval as i64);
+    let mut quantum = [0; 64];
+    let mut allotment = [0; 64];
+    let mut most = [(0, 0); 64];
+    let (mut n, mut slice) = (0, 0);
+    for (event, line) in events.iter().zip(lines) {
+        let line = numbers(line);
+        match *event {
+            _ if line[1] != 0 => {}
+            Event::Admit {
+                thread,
+                reservation,
+                ..
+            } => {
+                quantum[thread as usize] = reservation as i64 * m;
+                allotment[thread as usize] = reservation as i64 * m;
+            }
+            Event::Dispatch if line[2] != 64 => {
+                (n, slice) = (line[2] as usize, line[3]);
+                assert_eq!(slice, allotment[n].min(p), "{line:?}");
+            }
+            Event::Report { reason, used } => {
+                let used = used as i64;
+                assert!(used <= slice + settings.overrun as i64);
+                let left = allotment[n] - used;
+                allotment[n] = match left {
+                    ..=0 => left + quantum[n],
+                    _ if reason == Reason::Yield.number() => quantum[n],
+                    _ => left,
+                };
+                if -left > most[n].0 {
+                    most[n] = (-left, allotment[n]);
+                }
+            }
+            _ => {}
+        }
+    }
+    let rows = most.iter().enumerate().filter(|row| row.1 .0 > 0);
+    rows.map(|(n, &(owed, left))| vec![n as i64, owed, left])
+        .collect()
 }
 
 fn compare(seed: &str, milliseconds: &str) {
@@ -146,7 +210,8 @@ fn compare(seed: &str, milliseconds: &str) {
     assert_eq!(c_printed, printed, "{name}");
 
     let at = printed.find("roster").unwrap();
-    let (answers, roster) = printed.split_at(at);
+    let (answers, tables) = printed.split_at(at);
+    let (roster, in_debt) = tables.split_at(tables.find("debt").unwrap());
     assert_eq!(replayed(&rust_name), answers, "{name}");
 
     let (events, lines) = (events(&journal), answers.lines().collect::<Vec<_>>());
@@ -168,10 +233,16 @@ fn compare(seed: &str, milliseconds: &str) {
     let seen: Vec<usize> = (0..21).filter(|&a| refusals[a] > 0).collect();
     assert_eq!(seen, (0..=14).collect::<Vec<_>>());
 
-    // Readout's bound over every stretch, and its lag and share in the roster.
-    let settings = Settings::default();
-    let (m, p) = (settings.thousandth as i64, settings.interval as i64);
+    // The timer is late for readout and for others, and the debts are kept.
     let owed = owed(&events, &lines);
+    assert!(owed.overruns.iter().all(|&ticks| ticks > 0), "{owed:?}");
+    let in_debt: Vec<Vec<i64>> = in_debt.lines().map(numbers).collect();
+    assert!(in_debt.len() > 1, "{in_debt:?}");
+    assert_eq!(in_debt, debts(&events, &lines));
+
+    // Readout's bound over every stretch, and its lag and share in the roster.
+    let settings = settings();
+    let (m, p) = (settings.thousandth as i64, settings.interval as i64);
     let bound = 2 * F * (1000 - F) * m + F * p;
     assert!(0 < owed.most && owed.most <= bound, "{owed:?}");
     let rows: Vec<Vec<i64>> = roster.lines().map(numbers).collect();
