@@ -1,4 +1,5 @@
 pub mod Debt
+pub mod Word
 pub mod Facts
 pub mod Passed
 pub mod Steps

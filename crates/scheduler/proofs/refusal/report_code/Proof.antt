@@ -1,4 +1,6 @@
 -- `report_code` meets its contract: each return is a check of the chain, in its order.
+use Prim.Native.Nat.{_+_}
+use borrow.Author.Needs.{needs}
 use borrow.Author.Tests.{lt-ltb, le-ltb, eq-eqb, ne-eqb, not-true, not-false}
 use native.Mathlib.Omega.{arith}
 use Rattle.base.specs.Checks.{firstOf}
@@ -24,6 +26,9 @@ returns-3 c =
       lt-ltb 3 (a .reason) (c .if3 .taken),
     )
 
+add-if4 : tie.Need-add-if4
+add-if4 c = search needs
+
 returns-4 : tie.Need-returns-4
 unfolding firstOf
 returns-4 c =
@@ -32,7 +37,7 @@ returns-4 c =
       not-false (a .ok) (c .before .before .before .if1 .left),
       ne-eqb (a .running) 64 (c .before .before .if2 .left),
       le-ltb 3 (a .reason) (c .before .if3 .left),
-      lt-ltb (a .slice) (a .used) (c .if4 .taken),
+      lt-ltb (a .slice + a .overrun) (a .used) (c .if4 .taken),
     )
 
 returns-5 : tie.Need-returns-5
@@ -43,8 +48,8 @@ returns-5 c =
       not-false (a .ok) (c .before .before .before .if1 .left),
       ne-eqb (a .running) 64 (c .before .before .if2 .left),
       le-ltb 3 (a .reason) (c .before .if3 .left),
-      le-ltb (a .slice) (a .used) (c .if4 .left),
+      le-ltb (a .slice + a .overrun) (a .used) (c .if4 .left),
     )
 
 pub report-code-spec : {M : Type 1} → statement M
-report-code-spec = tie.close (tie.spec returns returns-2 returns-3 returns-4 returns-5)
+report-code-spec = tie.close (tie.spec returns returns-2 returns-3 add-if4 returns-4 returns-5)

@@ -4,9 +4,10 @@ use mathlib.Core.Path.{_≡_}
 use mathlib.Core.Bool.{true}
 use lib.Dec.{leb}
 use borrow.Author.Needs.{needs}
-use borrow.Author.Tests.{le-leb, lt-leb}
+use borrow.Author.Tests.{le-leb, lt-leb, lt-ltb, le-ltb}
 use Rattle.base.specs.Checks.{within, firstOf}
 use Rattle.scheduler.specs.State.{sliceMost}
+use Rattle.scheduler.specs.Sound.{settingsOk}
 use Rattle.scheduler.specs.Refusals.{startRefusal}
 use Rattle.scheduler.proofs.refusal.start_code.Statement.{statement}
 use Rattle.scheduler.proofs.refusal.start_code.Tie as tie
@@ -19,6 +20,9 @@ module _ (c : tie.Else2) where
   abbrev P : ℕ
   P = c .before .before .args .interval
 
+  abbrev O : ℕ
+  O = c .before .before .args .overrun
+
   low : leb 1 M ≡ true
   low = le-leb 1 M (c .before .if1 .left)
 
@@ -29,14 +33,14 @@ cast-if1 : tie.Need-cast-if1
 cast-if1 c = search needs
 
 returns : tie.Need-returns
-unfolding startRefusal firstOf within
+unfolding startRefusal firstOf settingsOk within
 returns c = simp (lt-leb 1 (c .before .args .thousandth) (c .if1 .taken))
 
 cast-if2 : tie.Need-cast-if2
 cast-if2 c = search needs
 
 returns-2 : tie.Need-returns-2
-unfolding startRefusal firstOf within
+unfolding startRefusal firstOf settingsOk within
 returns-2 c =
     let a = c .before .before .args in
     simp (le-leb 1 (a .thousandth) (c .before .if1 .left), lt-leb (a .thousandth) 1000 (c .if2 .taken))
@@ -45,7 +49,7 @@ cast-if3 : tie.Need-cast-if3
 cast-if3 c = search needs
 
 returns-3 : tie.Need-returns-3
-unfolding startRefusal firstOf within
+unfolding startRefusal firstOf settingsOk within
 returns-3 c =
     let e = c .before in
     simp (low e, high e, lt-leb 1 (P e) (c .if3 .taken))
@@ -54,18 +58,36 @@ cast-if4 : tie.Need-cast-if4
 cast-if4 c = search needs
 
 returns-4 : tie.Need-returns-4
-unfolding startRefusal firstOf within
+unfolding startRefusal firstOf settingsOk within
 returns-4 c =
     let e = c .before .before in
     simp (low e, high e, le-leb 1 (P e) (c .before .if3 .left), lt-leb (P e) sliceMost (c .if4 .taken))
 
 returns-5 : tie.Need-returns-5
-unfolding startRefusal firstOf within
+unfolding startRefusal firstOf settingsOk within
 returns-5 c =
-    let e = c .before .before in
-    simp (low e, high e, le-leb 1 (P e) (c .before .if3 .left), le-leb (P e) sliceMost (c .if4 .left))
+    let e = c .before .before .before in
+    simp (
+      low e,
+      high e,
+      le-leb 1 (P e) (c .before .before .if3 .left),
+      le-leb (P e) sliceMost (c .before .if4 .left),
+      le-ltb (O e) (M e) (c .if5 .taken),
+    )
+
+returns-6 : tie.Need-returns-6
+unfolding startRefusal firstOf settingsOk within
+returns-6 c =
+    let e = c .before .before .before in
+    simp (
+      low e,
+      high e,
+      le-leb 1 (P e) (c .before .before .if3 .left),
+      le-leb (P e) sliceMost (c .before .if4 .left),
+      lt-ltb (O e) (M e) (c .if5 .left),
+    )
 
 pub start-code-spec : {M : Type 1} → statement M
 start-code-spec =
     tie.close
-    (tie.spec cast-if1 returns cast-if2 returns-2 cast-if3 returns-3 cast-if4 returns-4 returns-5)
+    (tie.spec cast-if1 returns cast-if2 returns-2 cast-if3 returns-3 cast-if4 returns-4 returns-5 returns-6)

@@ -1,7 +1,14 @@
 -- `bounds_ok` meets its contract: what its callees ensure, put together. Assumes nothing.
-use mathlib.Core.Path.{sym, _∙_}
-use borrow.Author.Needs.{needs}
+use Prim.Native.Nat.{_*_}
+use mathlib.Core.Path.{_≡_, sym, ap, _∙_}
+use mathlib.Core.Bool.{_&&_}
+use lib.IntN.{ℤ}
+use mir.Facts.{toZ-ofZ}
+use borrow.Author.Needs.{needs, sfits-of}
 use borrow.Author.Tests.{not-true, not-false}
+use Rattle.base.specs.Checks.{within}
+use Rattle.scheduler.specs.State.{natOf}
+use Rattle.scheduler.specs.Sound.{quotaOk}
 use Rattle.scheduler.proofs.sound.bounds_ok.Statement.{statement}
 use Rattle.scheduler.proofs.sound.bounds_ok.Tie as tie
 
@@ -11,8 +18,17 @@ cast-reservation c = search needs
 quota-ok-requires : tie.Need-quota-ok-requires
 quota-ok-requires c κs = search needs
 
+-- the quota is tested on the allotment itself
+quota : (c : tie.After-quota-ok) → c .quota-ok .result ≡ quotaOk (c .before .before .before .args .m) (c .before .before .before .args .t)
+quota c =
+    let t = c .before .before .before .args .t in
+    let m = c .before .before .before .args .m in
+    c .quota-ok .ensures
+    ∙ ap (λ (z : ℤ). within 1 1000 (t .reservation) && within 1 (t .reservation * m) (natOf z))
+    (toZ-ofZ (sfits-of (c .before .struct-told .given .1 .1 .1 .1 .0 .1)))
+
 returns : tie.Need-returns
-returns c = rw (sym (c .before .quota-ok .ensures) ∙ not-true _ (c .if1 .taken))
+returns c = rw (sym (quota (c .before)) ∙ not-true _ (c .if1 .taken))
 
 account-ok-requires : tie.Need-account-ok-requires
 account-ok-requires c κs = tt
@@ -22,8 +38,7 @@ cast-g c = search needs
 
 returns-2 : tie.Need-returns-2
 returns-2 c =
-    let q = c .before .before .before .quota-ok in
-    rw (c .before .account-ok .ensures, sym (q .ensures) ∙ not-false _ (c .before .before .if1 .left))
+    rw (c .before .account-ok .ensures, sym (quota (c .before .before .before)) ∙ not-false _ (c .before .before .if1 .left))
 
 pub bounds-ok-spec : {M : Type 1} → statement M
 bounds-ok-spec =
