@@ -19,7 +19,7 @@ use Rattle.scheduler.specs.declared.Thread.{Thread}
 use Rattle.scheduler.specs.declared.Group.{Group}
 use Rattle.scheduler.specs.declared.Scheduler.{Scheduler}
 use Rattle.scheduler.specs.State.{noThread, noGroup, threadAt, groupAt, admittedAt, reservedAt, runnableAt, reservationAt, openAt}
-use Rattle.scheduler.specs.State.{listed}
+use Rattle.scheduler.specs.State.{natOf, listed}
 use Rattle.scheduler.specs.Sound.{quotaOk, accountOk, threadIn, reservedIn, threadOk}
 use Rattle.scheduler.specs.Inner.{given, boundsOk, Marks, Small, entryOk, ThreadsPass}
 use Rattle.scheduler.proofs.sound.Laws.{same, bump, Sized, sized-none, sized-more, sized-add}
@@ -49,7 +49,7 @@ pub quota-most : (m : ℕ) (t : Thread) → quotaOk m t ≡ true → t .reservat
 unfolding within
 quota-most m t e =
     let f = t .reservation in
-    leb→le f 1000 (and-r (leb 1 f) (leb f 1000) (and-l (within 1 1000 f) (within 1 (f * m) (t .allotment)) (holds (quotaOk m t) e)))
+    leb→le f 1000 (and-r (leb 1 f) (leb f 1000) (and-l (within 1 1000 f) (within 1 (f * m) (natOf (t .allotment))) (holds (quotaOk m t) e)))
 
 -- what the test says of an admitted thread
 pub record Entry (s : Scheduler) (n : ℕ) : Type 0 where

@@ -217,8 +217,9 @@ pub settings-most : (k : Settings) → settingsOk k ≡ true → k .thousandth �
 unfolding settingsOk within
 settings-most k e =
     let m : Bool = within 1 1000 (k .thousandth) in
+    let p : Bool = within 1 sliceMost (k .interval) in
     leb→le (k .thousandth) 1000 (and-r (leb 1 (k .thousandth)) (leb (k .thousandth) 1000)
-    (and-l m (within 1 sliceMost (k .interval)) (holds (settingsOk k) e)))
+    (and-l m p (and-l (m && p) (ltb (k .overrun) (k .thousandth)) (holds (settingsOk k) e))))
 
 pub running-most : (s : Scheduler)
     → (leb (s .meter) meterMost && leb (s .running) 64 && (eqb (s .running) 64 || ltb (s .meter) meterLimit)) ≡ true → s .running ≤ 64

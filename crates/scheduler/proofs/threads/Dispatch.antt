@@ -18,7 +18,7 @@ use Rattle.scheduler.specs.declared.Scheduler.{Scheduler}
 use Rattle.scheduler.specs.declared.Answer.{Answer}
 use Rattle.scheduler.specs.declared.Answer.the-variants.{Refused, Idle, Run}
 use Rattle.scheduler.specs.declared.Answered.{Answered}
-use Rattle.scheduler.specs.State.{threadAt, runnableAt, reservedAt, allotmentAt, sliceAt, listed, withRun, meterLimit}
+use Rattle.scheduler.specs.State.{natOf, threadAt, runnableAt, reservedAt, allotmentAt, sliceAt, listed, withRun, meterLimit}
 use Rattle.scheduler.specs.Sound.{sound}
 use Rattle.scheduler.specs.Refusals.{dispatch, checks, refusal}
 use Rattle.scheduler.specs.Effects.{chosen, passedOver, effect}
@@ -79,14 +79,14 @@ module _ (s : Scheduler) (e : refusal dispatch s ≡ 0) where
         ∙ sym (replied ∙ ap (taking s) (none h))
 
     dispatch-run : n < s .count → (a : Answer)
-        → a ≡ Run (getD (s .order) n 0) (min ((threadAt s (getD (s .order) n 0)) .allotment) (s .settings .interval)) n
+        → a ≡ Run (getD (s .order) n 0) (min (natOf ((threadAt s (getD (s .order) n 0)) .allotment)) (s .settings .interval)) n
         → answered a (withRun s (getD (s .order) n 0) (s .meter)) ≡ answeredTo dispatch s
     unfolding sliceAt allotmentAt
     dispatch-run h a w =
         let x = getD (s .order) n 0 in
         let off : eqb x 64 ≡ false = ne-eqb x 64 (λ z. omega (arith, entry s dispatch-facts n h)) in
         ap (λ (b : Answer). answered b (withRun s x (s .meter))) w
-        ∙ ap (λ (j : ℕ). answered (Run x (min ((threadAt s x) .allotment) (s .settings .interval)) j) (withRun s x (s .meter))) q
+        ∙ ap (λ (j : ℕ). answered (Run x (min (natOf ((threadAt s x) .allotment)) (s .settings .interval)) j) (withRun s x (s .meter))) q
         ∙ sym (replied ∙ ap (taking s) (sym (found h)) ∙ rw off)
 
 -- The number k, and how much of the list is looked at.
@@ -121,7 +121,7 @@ module _ (s : Scheduler) (k : ℕ) (e : k ≡ refusal dispatch s) (count : ℕ) 
       (λ z. omega (arith, ltb-false 0 count z))
 
   pub dispatch-done : (i : ℕ) → i ≤ count → passed (runnableAt s) (take count (s .order)) ≡ i
-      → (slice : ℕ) → slice ≡ min ((threadAt s (getD (s .order) (i % 64) 0 % 64)) .allotment) (s .settings .interval)
+      → (slice : ℕ) → slice ≡ min (natOf ((threadAt s (getD (s .order) (i % 64) 0 % 64)) .allotment)) (s .settings .interval)
       → (running : ℕ) → running ≡ cond (ltb i count) (getD (s .order) (i % 64) 0 % 64) (s .running)
       → (a : Answer) → a ≡ cond (eqb k 0) (cond (ltb i count) (Run (getD (s .order) (i % 64) 0 % 64) slice i) (Idle i)) (Refused k)
       → answered a (withRun s running (s .meter)) ≡ answeredTo dispatch s
@@ -139,9 +139,9 @@ module _ (s : Scheduler) (k : ℕ) (e : k ≡ refusal dispatch s) (count : ℕ) 
       let at : i % 64 ≡ i = omega (arith, look-most) in
       let same : getD (s .order) (i % 64) 0 % 64 ≡ x = ap (λ (j : ℕ). getD (s .order) j 0 % 64) at ∙ omega (arith, look-small i l) in
       let run : running ≡ x = qr ∙ rw y same in
-      let cut : slice ≡ min ((threadAt s x) .allotment) (s .settings .interval) =
-      qs ∙ ap (λ (j : ℕ). min ((threadAt s j) .allotment) (s .settings .interval)) same in
-      let taken : a ≡ Run x (min ((threadAt s x) .allotment) (s .settings .interval)) i =
+      let cut : slice ≡ min (natOf ((threadAt s x) .allotment)) (s .settings .interval) =
+      qs ∙ ap (λ (j : ℕ). min (natOf ((threadAt s j) .allotment)) (s .settings .interval)) same in
+      let taken : a ≡ Run x (min (natOf ((threadAt s x) .allotment)) (s .settings .interval)) i =
       qa ∙ rw (z, y) (ap (λ (j : ℕ). Run j slice i) same ∙ ap (λ (j : ℕ). Run x j i) cut) in
       ap (λ (j : ℕ). answered a (withRun s j (s .meter))) run ∙ dispatch-run s r i over (omega (arith, all)) a taken)
       (λ y.

@@ -60,11 +60,11 @@ answer-numbers c s =
 pub call-numbers : (c : Call) (s : Scheduler) (x : Answered) → x ≡ answeredTo c s → replyOf x ≡ step c s
 call-numbers c s x e = ap replyOf e ∙ answer-numbers c s
 
-pub start-numbers : (m p : ℕ) → replyOf (startAnswered m p) ≡ startReply m p
+pub start-numbers : (m p o : ℕ) → replyOf (startAnswered m p o) ≡ startReply m p o
 unfolding replyOf startAnswered numbersOf startReply refuse
-start-numbers m p =
-    let k = startRefusal m p in
-    let done = refuse 0 (started m p) in
+start-numbers m p o =
+    let k = startRefusal m p o in
+    let done = refuse 0 (started m p o) in
     let kept = refuse k unstarted in
     by (λ b. numbersOf (cond b Accepted (Refused k)) ((cond b done kept) .state) ≡ cond b done kept) (eqb k 0) (λ _. refl) (λ _. refl)
 

@@ -5,6 +5,7 @@ use mathlib.Core.Path.{_≡_, refl, sym, ap, subst, _∙_}
 use mathlib.Core.List.{List, [], _∷_, _++_}
 use mathlib.Core.Bool.{Bool, true, false, not, cond, _&&_, _||_}
 use native.Mathlib.Omega.{arith}
+use native.Mathlib.Nat.{min-le-right}
 use lib.ListN.{take, drop, set}
 use lib.Seq.{set-getD}
 use lib.Dec.{ltb, eqb}
@@ -16,13 +17,14 @@ use Rattle.scheduler.specs.declared.Thread.{Thread}
 use Rattle.scheduler.specs.declared.Scheduler.{Scheduler}
 use Rattle.scheduler.specs.declared.Answer.{Answer}
 use Rattle.scheduler.specs.declared.Answer.the-variants.{Accepted, Refused}
-use Rattle.scheduler.specs.State.{noThread, threadAt, sliceAt, allotmentAt, listed, stateOf, withThread, withList, withRun}
-use Rattle.scheduler.specs.State.{meterMost, sliceMost}
+use Rattle.scheduler.specs.State.{natOf, noThread, threadAt, admittedAt, reservedAt, sliceAt, allotmentAt, usedMost, listed, stateOf, withThread}
+use Rattle.scheduler.specs.State.{withList, withRun, meterMost}
 use Rattle.scheduler.specs.Sound.{sound}
 use Rattle.scheduler.specs.Refusals.{report, checks, refusal}
 use Rattle.scheduler.specs.Effects.{rear, toRear, offList, renewed, chargedThread, charged, exited, reported, effect}
 use Rattle.scheduler.specs.Rule.{isDispatch}
 use Rattle.scheduler.specs.Answers.{answeredTo}
+use Rattle.scheduler.specs.Inner.{Chargeable}
 use Rattle.scheduler.proofs.Facts.{facts, settings-facts}
 use Rattle.scheduler.proofs.Passed.{passes, report-passed}
 use Rattle.scheduler.proofs.threads.Replies.{answered, settled, rest, Listed, is-listed}
@@ -35,11 +37,11 @@ module _ (s : Scheduler) (reason used : ℕ) where
   place = s .running % 64
 
   abbrev slice : ℕ → ℕ
-  slice j = min ((threadAt s j) .allotment) (s .settings .interval)
+  slice j = min (natOf ((threadAt s j) .allotment)) (s .settings .interval)
 
   -- the checks
   abbrev numberAt : Bool → ℕ → ℕ
-  numberAt ok v = firstOf ((not ok ⇒ 16) ∷ (eqb (s .running) 64 ⇒ 11) ∷ (ltb 3 reason ⇒ 14) ∷ (ltb v used ⇒ 13) ∷ [])
+  numberAt ok v = firstOf ((not ok ⇒ 16) ∷ (eqb (s .running) 64 ⇒ 11) ∷ (ltb 3 reason ⇒ 14) ∷ (ltb (v + s .settings .overrun) used ⇒ 13) ∷ [])
 
   at-rest : numberAt (sound s) (slice place) ≡ numberAt (sound s) (slice (s .running))
   unfolding firstOf
@@ -53,22 +55,19 @@ module _ (s : Scheduler) (reason used : ℕ) where
       (λ w. rw w)
 
   pub report-number : (ok : Bool) → ok ≡ sound s → (v : ℕ) → v ≡ slice place → numberAt ok v ≡ refusal (report reason used) s
-  unfolding refusal checks sliceAt allotmentAt
+  unfolding refusal checks usedMost sliceAt allotmentAt
   report-number ok e v q = ap (numberAt ok) q ∙ ap (λ (b : Bool). numberAt b (slice place)) e ∙ at-rest
 
   -- What soundness gives an accepted report.
 
   pub record Ready : Type 0 where
     pub list : Listed s (s .running)
-    pub thousandth : s .settings .thousandth ≤ 1000
-    pub short : used ≤ sliceMost
     pub meter : s .meter ≤ meterMost
-    pub ticks : (threadAt s place) .ticks ≤ meterMost
-    pub since : (threadAt s place) .since ≤ meterMost
+    pub bounds : Chargeable (s .settings .thousandth) used (threadAt s place)
 
   module _ (e : refusal (report reason used) s ≡ 0) where
     pub ready : Ready
-    unfolding sliceAt
+    unfolding usedMost sliceAt reservedAt admittedAt
     ready =
         let ok = passes (report reason used) s e in
         let k = facts s (ok .0) in
@@ -77,13 +76,19 @@ module _ (s : Scheduler) (reason used : ℕ) where
         let t = k .account (s .running) (r .admitted) in
         let z = settings-facts (s .settings) (k .settings) in
         let l = is-listed s k (s .running) (r .admitted) in
+        let f = (k .thread (s .running) (r .admitted)) .fit in
         record {
           list = l;
-          thousandth = z .1;
-          short = omega (arith, p .1, z .3);
           meter = k .meter;
-          ticks = subst (λ (j : ℕ). (threadAt s j) .ticks ≤ meterMost) (sym (l .at)) (omega (arith, t .charged, k .meter));
-          since = subst (λ (j : ℕ). (threadAt s j) .since ≤ meterMost) (sym (l .at)) (omega (arith, t .since, k .meter));
+          bounds = subst (λ (j : ℕ). Chargeable (s .settings .thousandth) used (threadAt s j)) (sym (l .at)) (record {
+            thousandth = z .1;
+            short = omega (arith, p .1, z .3, z .4, z .1, min-le-right (allotmentAt s (s .running)) (s .settings .interval));
+            ticks = omega (arith, t .charged, k .meter);
+            since = omega (arith, t .since, k .meter);
+            reservation = f .at-most;
+            some = f .some;
+            bounded = f .bounded;
+          });
         }
 
   -- The new state.

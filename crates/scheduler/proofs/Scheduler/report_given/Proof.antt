@@ -32,8 +32,8 @@ module _ (c : tie.After-report-code) where
       ∙ report-number S reason used (start .args .ok) (start .pre) (c .before .slice .result) (c .before .slice .ensures)
 
   -- what soundness gives where there is no refusal
-  bounds : eqb (c .report-code .result) 0 ≡ true → Ready S reason used
-  bounds z = ready S reason used (sym number ∙ eqb-true (c .report-code .result) 0 z)
+  known : eqb (c .report-code .result) 0 ≡ true → Ready S reason used
+  known z = ready S reason used (sym number ∙ eqb-true (c .report-code .result) 0 z)
 
 returns : tie.Need-returns
 returns c =
@@ -66,10 +66,10 @@ report-code-requires : tie.Need-report-code-requires
 report-code-requires c κs = search needs
 
 meter-after-requires : tie.Need-meter-after-requires
-meter-after-requires c κs = λ z. let r = bounds (c .before) z in (r .meter, r .short)
+meter-after-requires c κs = λ z. let r = known (c .before) z in (r .meter, r .bounds .short)
 
 reported-requires : tie.Need-reported-requires
-reported-requires c κs = λ z. let r = bounds (c .before .before) z in (r .thousandth, r .short, r .ticks, r .since)
+reported-requires c κs = λ z. known (c .before .before) z .bounds
 
 moves-requires : tie.Need-moves-requires
 moves-requires c κs = search needs
@@ -93,7 +93,7 @@ count-after-requires : tie.Need-count-after-requires
 count-after-requires c κs = λ z.
     let k = c .before .before .before .before .before in
     let b = eqb (k .report-code .result) 0 in
-    (bounds k (is b (and-l b (eqb (reason k) 3) (holds _ z)))) .list .some
+    (known k (is b (and-l b (eqb (reason k) 3) (holds _ z)))) .list .some
 
 running-after-requires : tie.Need-running-after-requires
 running-after-requires c κs = search needs

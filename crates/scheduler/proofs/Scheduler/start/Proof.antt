@@ -19,7 +19,10 @@ module _ (c : tie.Then1) where
   abbrev P : ℕ
   P = coded .before .args .interval
 
-  clear : startRefusal M P ≡ 0
+  abbrev O : ℕ
+  O = coded .before .args .overrun
+
+  clear : startRefusal M P O ≡ 0
   clear = sym (coded .start-code .ensures) ∙ c .if1 .taken
 
 start-code-requires : tie.Need-start-code-requires
@@ -28,27 +31,30 @@ start-code-requires c κs = search needs
 unstarted-requires : tie.Need-unstarted-requires
 unstarted-requires c κs = search needs
 
-cast-t10 : tie.Need-cast-t10
-cast-t10 c = search needs
-
 cast-t11 : tie.Need-cast-t11
-cast-t11 c = omega (arith, start-bounds (M c) (P c) (clear c))
+cast-t11 c = search needs
 
 cast-t12 : tie.Need-cast-t12
-cast-t12 c = omega (arith, start-bounds (M c) (P c) (clear c))
+cast-t12 c = omega (arith, start-bounds (M c) (P c) (O c) (clear c))
+
+cast-t11-2 : tie.Need-cast-t11-2
+cast-t11-2 c = omega (arith, start-bounds (M c) (P c) (O c) (clear c))
+
+cast-t13 : tie.Need-cast-t13
+cast-t13 c = omega (arith, start-bounds (M c) (P c) (O c) (clear c))
 
 element-set-from-root : tie.Need-element-set-from-root
 element-set-from-root c = search needs
 
 returns : tie.Need-returns
-returns c = start-done (M c) (P c) (c .before .unstarted .result) (c .before .unstarted .ensures) (clear c)
+returns c = start-done (M c) (P c) (O c) (c .before .unstarted .result) (c .before .unstarted .ensures) (clear c)
 
 returns-2 : tie.Need-returns-2
 returns-2 c =
     let zeros = c .before in
     let coded = zeros .before in
     let a = coded .before .args in
-    start-refused (a .thousandth) (a .interval) (zeros .unstarted .result) (zeros .unstarted .ensures)
+    start-refused (a .thousandth) (a .interval) (a .overrun) (zeros .unstarted .result) (zeros .unstarted .ensures)
     (coded .start-code .result) (coded .start-code .ensures) (c .if1 .left)
 
 pub start-spec : {M : Type 1} → statement M
@@ -57,9 +63,10 @@ start-spec =
     (tie.spec
     start-code-requires
     unstarted-requires
-    cast-t10
     cast-t11
     cast-t12
+    cast-t11-2
+    cast-t13
     element-set-from-root
     returns
     returns-2)

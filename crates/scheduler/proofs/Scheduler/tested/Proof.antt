@@ -24,7 +24,7 @@ abbrev fourth : tie.After-threads → tie.Else4
 fourth c = c .before .before .before
 
 abbrev list-pass : tie.After-threads-pass → tie.After-list-seen
-list-pass c = (fourth (c .before)) .before .before
+list-pass c = (fourth (c .before .before)) .before .before
 
 abbrev second : tie.After-list-seen → tie.Else2
 second c = c .before .before .before
@@ -86,9 +86,12 @@ returns-4 c =
     (unsound (state (first (d .before .before)))
     (λ k. false≢true (sym (not-true _ (d .if4 .taken)) ∙ seen (d .before .before) .test ∙ k .list)))
 
+cast-threads-pass : tie.Need-cast-threads-pass
+cast-threads-pass c = search needs
+
 threads-pass-requires : tie.Need-threads-pass-requires
 threads-pass-requires c κs =
-    let l = (fourth c) .before .before in
+    let l = (fourth (c .before)) .before .before in
     let a = first l in
     let b = second l in (
       settings-most ((state a) .settings) (sym (a .before .ok .ensures) ∙ not-false _ (a .if1 .left)),
@@ -100,7 +103,7 @@ passed : (c : tie.After-threads-pass)
     → ThreadsPass (state (first (list-pass c))) (c .threads-pass .result .ok) (c .threads-pass .result .used)
 passed c =
     let l = list-pass c in
-    c .threads-pass .ensures (state (first l)) (seen l .marks (not-false _ ((fourth (c .before)) .if4 .left)))
+    c .threads-pass .ensures (state (first l)) (seen l .marks (not-false _ ((fourth (c .before .before)) .if4 .left)))
 
 failed-requires-5 : tie.Need-failed-requires-5
 failed-requires-5 c κs = search needs
@@ -131,7 +134,7 @@ returns-6 c =
             settings = sym (a .before .ok .ensures) ∙ not-false _ (a .if1 .left);
             meter = sym (b .before .meter-ok .ensures) ∙ not-false _ (b .if2 .left);
             few = l .before .before .if3 .left;
-            list = sym (seen l .test) ∙ not-false _ ((fourth (q .before)) .if4 .left);
+            list = sym (seen l .test) ∙ not-false _ ((fourth (q .before .before)) .if4 .left);
             threads = sym (p .test) ∙ ok;
             groups = g;
           });
@@ -153,6 +156,7 @@ tested-spec =
     list-seen-requires
     failed-requires-4
     returns-4
+    cast-threads-pass
     threads-pass-requires
     failed-requires-5
     returns-5

@@ -54,8 +54,7 @@ cast-allotment-after c = record { sfits = omega (arith, c .before .pre .short) }
 allotment-after-requires : tie.Need-allotment-after-requires
 unfolding natOf
 allotment-after-requires c κs =
-    let p = start c .pre in
-    (
+    let p = start c .pre in (
       subst (λ (z : ℤ). 1 ≤ natOf z) (sym (a-is c)) (p .some),
       subst (λ (z : ℤ). natOf z ≤ sliceMost) (sym (a-is c)) (omega (arith, p .bounded, most c)),
       subst (λ (z : ℤ). 1 ≤ natOf z) (sym (q-is c)) (omega (arith, p .some, p .bounded)),
