@@ -1,4 +1,4 @@
--- The signed allotment, read as a number: when a charge uses it up, and what it is after a report. The rule's other laws need no ℤ.
+-- The signed allotment, read as a number: when a charge uses it up, and what it is after a report. Laws about ℤ stand here.
 use Prim.Native.Nat.{ℕ, zero, suc, _+_, _-_, _≤_, _<_}
 use mathlib.Core.Path.{_≡_, refl, sym, ap, _∙_}
 use mathlib.Core.Bool.{true, false, cond}

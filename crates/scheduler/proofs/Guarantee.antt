@@ -16,8 +16,9 @@ use Rattle.scheduler.specs.declared.Scheduler.{Scheduler}
 use Rattle.scheduler.specs.State.{reservedAt, reservationAt, allotmentAt, listed, sliceAt}
 use Rattle.scheduler.specs.Sound.{sound}
 use Rattle.scheduler.specs.Refusals.{Call}
-use Rattle.scheduler.specs.Stretch.{Event, trace, final, accepted, ticksOf, named, ticksIn, allTicks, ticksBy, anyone, throughout}
-use Rattle.scheduler.specs.Stretch.{keepsRunnable, keepsAdmitted, Protected, Present, Owed, Second}
+use Rattle.scheduler.specs.Stretch.{Event, trace, final, accepted, ticksOf, named, sumIn, ticksIn, overrunsIn, anyone, allTicks}
+use Rattle.scheduler.specs.Stretch.{ticksBy, overrunsBeside, overrunsBy, throughout, keepsRunnable, keepsAdmitted, Protected, Present}
+use Rattle.scheduler.specs.Stretch.{Owed, Second}
 use Rattle.scheduler.proofs.Facts.{Facts, facts, member-reserved, below-quantum, below-whole}
 use Rattle.scheduler.proofs.Share.Gauge.{gauge}
 use Rattle.scheduler.proofs.Share.Step.{weight, potential, Guarded}
@@ -28,7 +29,7 @@ use Rattle.scheduler.proofs.Share.Stretch.{Reserved, Bound, stretch}
 -- ticks of all, in two parts
 ticks-split : (x last : ℕ) (es : List Event)
     → ticksIn anyone last es ≡ ticksIn (λ n. not (eqb n x)) last es + ticksIn (λ n. eqb n x) last es
-unfolding ticksIn
+unfolding ticksIn sumIn
 ticks-split x last [] = refl
 ticks-split x last (e ∷ es) = omega (arith, ticks-split x (named last e) es, parts (accepted e) (eqb last x) (ticksOf (e .call)))
   where
@@ -109,14 +110,16 @@ weight-one s k x y g own is-g =
     (λ q. omega arith))
     refl
 
--- the sums of a stretch, put together
-owed-all : (f h m p W O S G d : ℕ) → f + h ≡ 1000 → W ≡ O + S → d ≤ f * m → f * O ≤ f * G + h * d + h * S → f * G ≤ f * (h * m + p)
-    → f * W ≤ 1000 * S + 2 * f * h * m + f * p
-owed-all f h m p W O S G d whole e u owed w =
+-- the sums of a stretch, put together: v is the overruns
+owed-all : (f h m p W O S G d v : ℕ) → f + h ≡ 1000 → W ≡ O + S → d ≤ f * m → f * O ≤ f * G + h * d + h * S + f * v
+    → f * G ≤ f * (h * m + p)
+    → f * W ≤ 1000 * S + 2 * f * h * m + f * p + f * v
+owed-all f h m p W O S G d v whole e u owed w =
     rw e (omega (arith, mul-le-mul-left h u, ap (λ (z : ℕ). z * S) whole))
 
-owed-one : (f g m O S G d : ℕ) → d ≤ f * m → f * O ≤ f * G + g * d + g * S → f * G ≤ f * (g * m) → f * O ≤ g * S + 2 * f * g * m
-owed-one f g m O S G d u owed w = omega (arith, mul-le-mul-left g u)
+owed-one : (f g m O S G d v : ℕ) → d ≤ f * m → f * O ≤ f * G + g * d + g * S + f * v → f * G ≤ f * (g * m)
+    → f * O ≤ g * S + 2 * f * g * m + f * v
+owed-one f g m O S G d v u owed w = omega (arith, mul-le-mul-left g u)
 
 -- the others' reservations
 others : (x f : ℕ) (s : Scheduler) → T (sound s) → Guarded f x s → Reserved f x s
@@ -131,7 +134,7 @@ others x f s t k r =
 
 -- What x is owed: every other thread counts, at the rate 1000 − f.
 pub owed : (s : Scheduler) → T (sound s) → (cs : List Call) (x : ℕ) → Protected s cs x → Owed s cs x
-unfolding allTicks ticksBy potential Bound
+unfolding allTicks ticksBy overrunsBeside potential Bound
 owed s t cs x px =
     let f = reservationAt s x in
     let h = 1000 - f in
@@ -146,11 +149,13 @@ owed s t cs x px =
     let res : Reserved f x s = record { reserved = px .reserved; amount = refl } in
     let stays : T (throughout (keepsAdmitted x) last es) =
     throughout-map (keepsRunnable x) (keepsAdmitted x) (runnable-admitted x) last es (px .keeps) in
-    let sums : f * ticksIn sel last es + potential f h sel x (final s cs) ≤ potential f h sel x s + h * ticksIn (λ n. eqb n x) last es =
+    let sums : f * ticksIn sel last es + potential f h sel x (final s cs) ≤ potential f h sel x s + h * ticksIn (λ n. eqb n x) last es
+    + f * overrunsIn sel last es =
     stretch f f h sel x x (ap not (eq-eqb x x refl)) (others x f) cs s last (λ _. refl) guard res (px .keeps) stays in
     let w = mul-le-mul-left f (weight-all s k sel x h (others x f s t guard res)) in
     let all = owed-all f h m p (ticksIn anyone last es) (ticksIn sel last es) (ticksIn (λ n. eqb n x) last es) (weight sel x s)
-    (f * m - allotmentAt s x) (omega arith) (ticks-split x last es) (sub-le (f * m) (allotmentAt s x)) (omega (arith, sums)) w in
+    (f * m - allotmentAt s x) (overrunsIn sel last es) (omega arith) (ticks-split x last es) (sub-le (f * m) (allotmentAt s x))
+    (omega (arith, sums)) w in
     omega (arith, all)
 
 -- The limit on a second thread: y alone counts, at the rate of its reservation. It needs no sum over the others.
@@ -162,7 +167,7 @@ alone y g s t r =
 
 second-apart : (s : Scheduler) → T (sound s) → (cs : List Call) (x y : ℕ) → (x ≡ y → ⊥) → Protected s cs x → Present s cs y
     → Second s cs x y
-unfolding ticksBy potential Bound
+unfolding ticksBy overrunsBy potential Bound
 second-apart s t cs x y apart px py =
     let f = reservationAt s x in
     let g = reservationAt s y in
@@ -173,11 +178,12 @@ second-apart s t cs x y apart px py =
     let k = facts s t in
     let guard : Guarded f x s = record { reserved = px .reserved; runnable = px .runnable; amount = refl } in
     let res : Reserved g y s = record { reserved = py .reserved; amount = refl } in
-    let sums : f * ticksIn sel last es + potential f g sel x (final s cs) ≤ potential f g sel x s + g * ticksIn (λ n. eqb n x) last es =
+    let sums : f * ticksIn sel last es + potential f g sel x (final s cs) ≤ potential f g sel x s + g * ticksIn (λ n. eqb n x) last es
+    + f * overrunsIn sel last es =
     stretch f g g sel x y (ne-eqb x y apart) (λ s t _ r. alone y g s t r) cs s last (λ _. refl) guard res (px .keeps) (py .keeps) in
     let w = mul-le-mul-left f (weight-one s k x y g (py .reserved) refl) in
     let one = owed-one f g m (ticksIn sel last es) (ticksIn (λ n. eqb n x) last es) (weight sel x s) (f * m - allotmentAt s x)
-    (sub-le (f * m) (allotmentAt s x)) (omega (arith, sums)) w in
+    (overrunsIn sel last es) (sub-le (f * m) (allotmentAt s x)) (omega (arith, sums)) w in
     omega (arith, one)
 
 pub second : (s : Scheduler) → T (sound s) → (cs : List Call) (x y : ℕ) → Protected s cs x → Present s cs y → Second s cs x y

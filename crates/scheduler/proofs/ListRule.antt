@@ -2,13 +2,14 @@
 -- chosen thread; and RULE 4.2, where the anchor is set. Each goes by the facts of a sound state and the laws of the one list it changes.
 use Prim.Native.Nat.{ℕ, _+_, _-_, _*_, _≤_, _<_}
 use mathlib.Core.Path.{_≡_, refl, ap, _∙_}
+use mathlib.Core.List.{[], _∷_, _++_}
 use mathlib.Core.Bool.{Bool, true, false, not, _&&_, _||_}
 use native.Mathlib.Omega.{arith}
 use native.Mathlib.Nat.{sub-self, mul-zero}
 use lib.ListN.{length, getD, take}
-use lib.Dec.{T, T-not, ltb, leb, eqb, ltb→lt}
-use borrow.Author.Tests.{eqb-true, eqb-false, ne-eqb, eq-eqb, lt-leb}
-use lib.IntN.{pos, subℕ}
+use lib.Dec.{T, T-not, ltb, eqb, ltb→lt}
+use borrow.Author.Tests.{eqb-true, eqb-false, ne-eqb, eq-eqb}
+use lib.IntN.{pos, subℕ, _+ℤ_, _-ℤ_}
 use Rattle.base.specs.Lists.{member, without, everyOf}
 use Rattle.base.proofs.Bools.{cases, and-l, isn't, holds}
 use Rattle.base.proofs.Lists.{before, everyOf-at, everyOf-map, passed-before, passed-at, passed-all, first-none, without-snoc}
@@ -16,15 +17,17 @@ use Rattle.base.proofs.Lists.{without-twice, member-take}
 use Rattle.scheduler.specs.declared.Thread.{Thread}
 use Rattle.scheduler.specs.declared.Scheduler.{Scheduler}
 use Rattle.scheduler.specs.State.{threadAt, admittedAt, blockedAt, runnableAt, reservedAt, allotmentAt, listed, withThread, withGroup}
-use Rattle.scheduler.specs.State.{withList, withRun, isRunnable, isBlocked}
+use Rattle.scheduler.specs.State.{withList, withRun, isRunnable, isBlocked, natOf, reservationAt, quantum, usedMost}
 use Rattle.scheduler.specs.Refusals.{Call, openGroup, closeGroup, admit, remove, wake, dispatch, report, refusal}
 use Rattle.scheduler.specs.Effects.{rear, toRear, offList, join, newThread, wokenThread, renewed, chargedThread, charged, exited}
-use Rattle.scheduler.specs.Effects.{reported, chosen, passedOver, effect}
+use Rattle.scheduler.specs.Effects.{left, usedUp, allotmentAfter, reported, chosen, passedOver, effect}
 use Rattle.scheduler.specs.Rule.{isDispatch, accept, refuse, step}
-use Rattle.scheduler.proofs.Facts.{Facts, facts, admitted-reserved, in-threads, member-admitted, fits, take-rear, take-off, room}
-use Rattle.scheduler.proofs.Facts.{listed-join, thread-same, unlisted}
-use Rattle.scheduler.proofs.Passed.{passes, admit-passed, remove-passed, wake-passed, report-passed, reported-cases}
-use Rattle.scheduler.proofs.Steps.{step-state, refused-state, woken-listed, chosen-runnable, woken-allotment, charged-left}
+use Rattle.scheduler.proofs.Debt.{all-used, still-left, debt-after}
+use Rattle.scheduler.proofs.Facts.{Facts, facts, reserved-admitted, admitted-reserved, in-threads, member-admitted, fits, take-rear}
+use Rattle.scheduler.proofs.Facts.{take-off, room, listed-join, thread-same, unlisted}
+use Rattle.scheduler.proofs.Passed.{passes, admit-passed, remove-passed, wake-passed, report-passed, reported-rear, reported-cases}
+use Rattle.scheduler.proofs.Steps.{step-state, refused-state, woken-listed, chosen-runnable, after-fits, charged-left}
+use Rattle.scheduler.proofs.Steps.{woken-allotment}
 use Rattle.scheduler.specs.Accounts.{lagOf}
 
 -- the thread that a call puts into the list, takes off it or may move, or 64
@@ -90,10 +93,9 @@ neither : (a b : Bool) → a ≡ false → b ≡ false → (a || b) ≡ false
 neither true b p q = p
 neither false b p q = q
 
-not-renewed : (reason used : ℕ) (t : Thread) → reason ≤ 1 → used < t .allotment → renewed reason used t ≡ false
+not-renewed : (reason used : ℕ) (t : Thread) → reason ≤ 1 → used < natOf (t .allotment) → renewed reason used t ≡ false
 unfolding renewed
-not-renewed reason used t small left =
-    neither (eqb reason 2) (leb (t .allotment) used) (ne-eqb reason 2 (λ z. omega arith)) (lt-leb (t .allotment) used left)
+not-renewed reason used t small left = neither (eqb reason 2) (usedUp used t) (ne-eqb reason 2 (λ z. omega arith)) (still-left used t left)
 
 -- RULE 2.6, after a tick or a block with something left.
 pub left-keeps : (reason used : ℕ) (s : Scheduler) → refusal (report reason used) s ≡ 0 → reason ≤ 1 → used < allotmentAt s (s .running)
@@ -107,6 +109,74 @@ left-keeps reason used s e small left =
     let a = (k .run ((report-passed s reason used (ok .1)) .0)) .admitted in
     let stays = not-renewed reason used (threadAt s r) small left in
     rw (ne-eqb reason 3 (λ z. omega arith), stays) (refl, charged-left s r reason used (in-threads s k r a) stays)
+
+-- a thread that is charged and moved: the list, the signed allotment, and the allotment as a number
+module _ (s : Scheduler) (k : Facts s) (r : ℕ) (own : T (reservedAt s r)) (reason used : ℕ) where
+  moved : listed (toRear r (charged r reason used s)) ≡ without r (listed s) ++ r ∷ []
+  unfolding listed toRear charged withList withRun withThread rear
+  moved = take-rear (s .order) (s .count) r (fits s k) (k .once) ((k .thread r own) .in-list)
+
+  signed : (threadAt (toRear r (charged r reason used s)) r) .allotment ≡ allotmentAfter s reason used (threadAt s r)
+  unfolding toRear charged withList withRun withThread chargedThread
+  signed =
+      ap (λ (t : Thread). t .allotment)
+      (thread-same s r (chargedThread s reason used (threadAt s r)) (in-threads s k r (reserved-admitted s r own)))
+
+  -- used up
+  module _ (fit : used ≤ usedMost s r) (all : allotmentAt s r ≤ used) where
+    up : usedUp used (threadAt s r) ≡ true
+    unfolding allotmentAt
+    up = all-used used (threadAt s r) all
+
+    added : (threadAt (toRear r (charged r reason used s)) r) .allotment
+        ≡ (threadAt s r) .allotment -ℤ pos used +ℤ pos (quantum s (reservationAt s r))
+    unfolding allotmentAfter left reservationAt
+    added = signed ∙ rw up refl
+
+    summed : allotmentAt (toRear r (charged r reason used s)) r + used ≡ allotmentAt s r + quantum s (reservationAt s r)
+    unfolding allotmentAt reservationAt
+    summed =
+        omega (
+          arith,
+          ap natOf signed,
+          debt-after used (threadAt s r) s reason ((k .thread r own) .fit .some) up,
+          (after-fits s k r reason used own fit) .0,
+        )
+
+-- RULE 2.6: an accepted report that uses up the allotment, whether tick, block or yield, moves the thread to the rear once and adds its
+-- quantum once. What it used beyond its allotment is missing from the new one: a debt is kept.
+pub debt-kept : (reason used : ℕ) (s : Scheduler) → refusal (report reason used) s ≡ 0 → reason ≤ 2 → allotmentAt s (s .running) ≤ used
+    → (listed (effect (report reason used) s) ≡ without (s .running) (listed s) ++ s .running ∷ [])
+    × ((threadAt (effect (report reason used) s) (s .running)) .allotment
+    ≡ (threadAt s (s .running)) .allotment -ℤ pos used +ℤ pos (quantum s (reservationAt s (s .running))))
+    × (allotmentAt (effect (report reason used) s) (s .running) + used
+    ≡ allotmentAt s (s .running) + quantum s (reservationAt s (s .running)))
+unfolding effect renewed
+debt-kept reason used s e small all =
+    let ok = passes (report reason used) s e in
+    let k = facts s (ok .0) in
+    let r = s .running in
+    let c = report-passed s reason used (ok .1) in
+    let own = admitted-reserved s r ((k .run (c .0)) .admitted) in
+    rw (reported-rear r reason used s (ne-eqb reason 3 (λ z. omega arith)) (either (eqb reason 2) (up s k r own reason used (c .1) all)))
+    (moved s k r own reason used, added s k r own reason used (c .1) all, summed s k r own reason used (c .1) all)
+  where
+    either : (a : Bool) {b : Bool} → b ≡ true → (a || b) ≡ true
+    either true q = refl
+    either false q = q
+
+-- RULE 2.7: an accepted yield with something left fills the allotment and moves the thread to the rear once.
+pub yield-fills : (used : ℕ) (s : Scheduler) → refusal (report 2 used) s ≡ 0 → used < allotmentAt s (s .running)
+    → (listed (effect (report 2 used) s) ≡ without (s .running) (listed s) ++ s .running ∷ [])
+    × ((threadAt (effect (report 2 used) s) (s .running)) .allotment ≡ pos (quantum s (reservationAt s (s .running))))
+unfolding effect renewed allotmentAfter allotmentAt reservationAt
+yield-fills used s e some =
+    let ok = passes (report 2 used) s e in
+    let k = facts s (ok .0) in
+    let r = s .running in
+    let own = admitted-reserved s r ((k .run ((report-passed s 2 used (ok .1)) .0)) .admitted) in
+    rw (reported-rear r 2 used s refl refl)
+    (moved s k r own 2 used, signed s k r own 2 used ∙ rw (still-left used (threadAt s r) some) refl)
 
 -- RULE 2.8.
 pub wake-keeps : (n : ℕ) (s : Scheduler) → refusal (wake n) s ≡ 0

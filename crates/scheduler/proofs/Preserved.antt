@@ -14,8 +14,7 @@ use Rattle.base.proofs.Sums.{everyBelow-at, sum-update}
 use Rattle.scheduler.specs.declared.Group.{Group}
 use Rattle.scheduler.specs.declared.Scheduler.{Scheduler}
 use Rattle.scheduler.specs.State.{noGroup, threadAt, groupAt, admittedAt, reservedAt, runnableAt, reservationAt, openAt, listed}
-use Rattle.scheduler.specs.State.{sliceMost}
-use Rattle.scheduler.specs.State.{sliceAt, withGroup, isOpen}
+use Rattle.scheduler.specs.State.{usedMost, withGroup, isOpen}
 use Rattle.scheduler.specs.Sound.{settingsOk, load, threadIn, childOf, reservedIn, ceilingsIn, shapeOk, sound}
 use Rattle.scheduler.specs.Refusals.{Call, openGroup, closeGroup, admit, remove, wake, dispatch, report, free, refusal, startRefusal}
 use Rattle.scheduler.specs.Effects.{effect, started, unstarted}
@@ -241,7 +240,7 @@ close-facts s k n ok =
 
 -- Every accepted call.
 
-report-kept : (s : Scheduler) → Facts s → (reason used : ℕ) → (s .running ≡ 64 → ⊥) → used ≤ sliceAt s (s .running)
+report-kept : (s : Scheduler) → Facts s → (reason used : ℕ) → (s .running ≡ 64 → ⊥) → used ≤ usedMost s (s .running)
     → Facts (effect (report reason used) s)
 unfolding effect
 report-kept s k reason used runs fit = report-facts s k (s .running) refl runs reason used fit
@@ -286,16 +285,14 @@ stays-sound c s t =
 -- Start.
 
 -- everything but the settings is computed
-pub started-sound : (m p : ℕ) → T (within 1 1000 m) → T (within 1 sliceMost p) → T (sound (started m p))
+pub started-sound : (m p o : ℕ) → T (settingsOk (record { interval = p; thousandth = m; overrun = o })) → T (sound (started m p o))
 unfolding lists soundness openAt admittedAt reservedAt listed started
-started-sound m p a b = rw (is (within 1 1000 m) a, is (within 1 sliceMost p) b) tt
+started-sound m p o a = rw (is (settingsOk (record { interval = p; thousandth = m; overrun = o })) a) tt
 
 -- An accepted start returns a sound state; a refused one a state that is not.
-pub start-sound : (m p : ℕ) → startRefusal m p ≡ 0 → T (sound ((startReply m p) .state))
+pub start-sound : (m p o : ℕ) → startRefusal m p o ≡ 0 → T (sound ((startReply m p o) .state))
 unfolding startReply refuse
-start-sound m p e =
-    let c = start-passed m p e in
-    rw e (started-sound m p (c .0) (c .1))
+start-sound m p o e = rw e (started-sound m p o (start-passed m p o e))
 
 pub unstarted-unsound : sound unstarted ≡ false
 unfolding sound shapeOk settingsOk within unstarted

@@ -1,9 +1,10 @@
 -- Small laws of the definitions: the state after a call, accepted or refused, by cases on its refusal; the meter after a call, the list
--- after a wake, the chosen thread; and a thread's allotment and slice after a thread is replaced, charged or woken, read off the table.
+-- after a wake, the chosen thread, the most that a report may use; and a thread's allotment and slice after a thread is replaced, charged
+-- or woken, read off the table.
 use Prim.Native.Nat.{ℕ, _+_, _-_, _*_, min, _≤_, _<_}
 use mathlib.Core.Path.{_≡_, refl, ap, _∙_}
-use mathlib.Core.Bool.{true, false}
-use native.Mathlib.Nat.{min-le-right}
+use mathlib.Core.Bool.{true, false, cond}
+use native.Mathlib.Nat.{le-refl, mul-pos, mul-le-mul-right, min-le-left, min-le-right}
 use native.Mathlib.Omega.{arith}
 use lib.ListN.{length}
 use lib.Dec.{T, eqb}
@@ -14,13 +15,13 @@ use Rattle.base.proofs.Lists.{first-found}
 use Rattle.scheduler.specs.declared.Thread.{Thread}
 use Rattle.scheduler.specs.declared.Scheduler.{Scheduler}
 use Rattle.scheduler.specs.State.{natOf, threadAt, admittedAt, runnableAt, reservationAt, allotmentAt, listed, sliceAt, usedMost}
-use Rattle.scheduler.specs.State.{chargeMost, withThread, withGroup, withList, withRun}
+use Rattle.scheduler.specs.State.{reservedAt, chargeMost, withThread, withGroup, withList, withRun}
 use Rattle.scheduler.specs.Refusals.{Call, openGroup, closeGroup, admit, remove, wake, dispatch, report, refusal}
 use Rattle.scheduler.specs.Effects.{toRear, offList, join, wokenThread, usedUp, renewed, chargedThread, charged, exited, chosen}
-use Rattle.scheduler.specs.Effects.{effect}
+use Rattle.scheduler.specs.Effects.{allotmentAfter, effect}
 use Rattle.scheduler.specs.Rule.{accept, refuse, step}
 use Rattle.scheduler.specs.Stretch.{ticksOf}
-use Rattle.scheduler.proofs.Debt.{debt-after, filled-after, kept-after}
+use Rattle.scheduler.proofs.Debt.{used-most, used-less, after-nat, debt-after, kept-after}
 use Rattle.scheduler.proofs.Facts.{Facts, in-threads, thread-other, thread-same, settings-facts}
 use Rattle.scheduler.proofs.Passed.{reported-cases}
 
@@ -67,6 +68,41 @@ charge-most s k n =
     let z = settings-facts (s .settings) (k .settings) in
     omega (arith, z .1, z .3, z .4, min-le-right (allotmentAt s n) (s .settings .interval))
 
+-- the allotment and the overrun limit cover it
+pub covered : (s : Scheduler) (n : ℕ) → usedMost s n ≤ allotmentAt s n + s .settings .overrun
+unfolding usedMost sliceAt
+covered s n = omega (arith, min-le-left (allotmentAt s n) (s .settings .interval))
+
+-- a debt is below m, so one quantum pays it
+pays : (a f m o used : ℕ) → 1 ≤ f → o < m → used ≤ a + o → 1 ≤ a + f * m - used
+pays a f m o used f1 small le =
+    let w : 1 * m ≤ f * m = mul-le-mul-right m f1 in
+    omega arith
+
+-- the allotment after an accepted report lies between 1 and the quantum
+pub after-fits : (s : Scheduler) → Facts s → (r reason used : ℕ) → T (reservedAt s r) → used ≤ usedMost s r
+    → (1 ≤ natOf (allotmentAfter s reason used (threadAt s r)))
+    × (natOf (allotmentAfter s reason used (threadAt s r)) ≤ reservationAt s r * s .settings .thousandth)
+unfolding allotmentAt reservationAt
+after-fits s k r reason used own fit =
+    let t = threadAt s r in
+    let a = natOf (t .allotment) in
+    let q = t .reservation * s .settings .thousandth in
+    let z = settings-facts (s .settings) (k .settings) in
+    let n = (k .thread r own) .fit in
+    let most : used ≤ a + s .settings .overrun = omega (arith, covered s r, fit) in
+    rw (after-nat used t s reason (n .some))
+    (by (λ b. usedUp used t ≡ b → (1 ≤ cond b (a + q - used) (cond (eqb reason 2) q (a - used)))
+    × (cond b (a + q - used) (cond (eqb reason 2) q (a - used)) ≤ q)) (usedUp used t)
+    (λ e _. (
+      pays a (t .reservation) (s .settings .thousandth) (s .settings .overrun) used (n .positive) (z .4) most,
+      omega (arith, used-most used t e),
+    ))
+    (λ e _. by (λ b. (1 ≤ cond b q (a - used)) × (cond b q (a - used) ≤ q)) (eqb reason 2)
+    (λ _. (mul-pos (n .positive) (z .0), le-refl q))
+    (λ _. (omega (arith, used-less used t e), omega (arith, n .bounded))))
+    refl)
+
 -- allotments after a change of one thread
 pub allotment-other : (s : Scheduler) (n : ℕ) (t : Thread) (j : ℕ) → (j ≡ n → ⊥) → allotmentAt (withThread s n t) j ≡ allotmentAt s j
 unfolding allotmentAt
@@ -81,7 +117,7 @@ pub allotment-same : (s : Scheduler) (n : ℕ) (t : Thread) → n < length (s .t
 unfolding allotmentAt
 allotment-same s n t h = ap (λ (t : Thread). natOf (t .allotment)) (thread-same s n t h)
 
--- the charged thread: what is left; or, used up, that and the quantum; or, filled by a yield, the quantum
+-- the charged thread: what is left; or, used up, that and the quantum
 pub charged-left : (s : Scheduler) (r reason used : ℕ) → r < length (s .threads) → renewed reason used (threadAt s r) ≡ false
     → allotmentAt (withThread s r (chargedThread s reason used (threadAt s r))) r + used ≡ allotmentAt s r
 unfolding chargedThread allotmentAt
@@ -94,12 +130,6 @@ pub charged-debt : (s : Scheduler) (r reason used : ℕ) → r < length (s .thre
 unfolding chargedThread allotmentAt reservationAt
 charged-debt s r reason used h some e =
     allotment-same s r (chargedThread s reason used (threadAt s r)) h ∙ debt-after used (threadAt s r) s reason some e
-
-pub charged-filled : (s : Scheduler) (r used : ℕ) → r < length (s .threads) → usedUp used (threadAt s r) ≡ false
-    → allotmentAt (withThread s r (chargedThread s 2 used (threadAt s r))) r ≡ reservationAt s r * s .settings .thousandth
-unfolding chargedThread allotmentAt reservationAt
-charged-filled s r used h e =
-    allotment-same s r (chargedThread s 2 used (threadAt s r)) h ∙ filled-after used (threadAt s r) s e
 
 pub woken-allotment : (s : Scheduler) → Facts s → (n : ℕ) → T (admittedAt s n) → (j : ℕ)
     → allotmentAt (withThread s n (wokenThread s (threadAt s n))) j ≡ allotmentAt s j

@@ -1,6 +1,6 @@
 -- The potential of the share guarantee on bare lists and numbers. The gauge is what stands before x in the list, blocked threads too,
 -- and the slice of a running thread that does not stand there. No call raises it, and a report by another thread lowers it by the
--- ticks charged, whether the thread stays, moves to the rear or leaves.
+-- ticks charged that are within its slice, whether the thread stays, moves to the rear or leaves.
 use Prim.Native.Nat.{ℕ, _+_, _-_, _*_, _≤_}
 use mathlib.Core.Path.{_≡_, refl, ap, _∙_}
 use mathlib.Core.List.{List, [], _∷_, _++_}
@@ -75,7 +75,7 @@ module _ (sel : ℕ → Bool) (x : ℕ) (off : sel x ≡ false) (v : ℕ) (l : L
           (λ e u. rw (is (before r x l) u) (or-zero (eqb r 64)))
           t
 
-  -- another thread's run ends after t ticks. d is what it loses before x, if it stands there
+  -- another thread's run ends, with t ticks within its slice. d is what it loses before x, if it stands there
   module _ (al al′ : ℕ → ℕ) (r t : ℕ) (same : (k : ℕ) → (k ≡ r → ⊥) → al′ k ≡ al k) (other : r ≡ x → ⊥) (runs : r ≡ 64 → ⊥) (v′ : ℕ)
       (fits : t ≤ v) (less : t ≤ al r) where
     -- what it lost is in what stood before x, or in what ran behind it
@@ -141,7 +141,8 @@ module _ (sel : ℕ → Bool) (x : ℕ) (off : sel x ≡ false) (v : ℕ) (l : L
             (λ e _. omega arith)
             refl
 
--- The three kinds of step, as numbers. G: the gauge; a: x's allotment; f m: its quantum; w: ticks of those that count; t: x's own.
+-- The three kinds of step, as numbers. G: the gauge; a: x's allotment; f m: its quantum; w: ticks of those that count, within a slice;
+-- t: x's own, which may exceed it.
 
 pub quiet-step : (f h q w G G′ a a′ : ℕ) → a′ ≡ a → G′ + w ≤ G → f * w + (f * G′ + h * (q - a′)) ≤ f * G + h * (q - a)
 quiet-step f h q w G G′ a a′ e le = rw e (omega (arith, mul-le-mul-left f le))
@@ -151,9 +152,8 @@ run-step f h q t G G′ a a′ e le =
     let k : q - a′ ≤ q - a + t = omega arith in
     omega (arith, mul-le-mul-left f le, mul-le-mul-left h k)
 
-pub turn-step : (f h m t G G′ a a′ : ℕ) → a′ ≡ f * m → t ≡ a → a ≤ f * m → G′ ≤ h * m
+pub turn-step : (f h m t G G′ a a′ : ℕ) → a′ ≡ a + f * m - t → a ≤ t → a ≤ f * m → G′ ≤ h * m
     → f * G′ + h * (f * m - a′) ≤ f * G + h * (f * m - a) + h * t
 turn-step f h m t G G′ a a′ e u below le =
-    let z : f * m - a′ ≡ 0 = omega arith in
-    let k : f * m ≤ f * m - a + t = omega arith in
-    rw z (omega (arith, mul-le-mul-left f le, mul-le-mul-left h k))
+    let k : f * m + (f * m - a′) ≤ f * m - a + t = omega arith in
+    omega (arith, mul-le-mul-left f le, mul-le-mul-left h k)

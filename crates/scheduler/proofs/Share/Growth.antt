@@ -13,7 +13,7 @@ use Rattle.scheduler.specs.State.{threadAt, admittedAt}
 use Rattle.scheduler.specs.Refusals.{Call, refusal}
 use Rattle.scheduler.specs.Effects.{chosen, effect}
 use Rattle.scheduler.specs.Rule.{Reply, isDispatch, accept, refuse, step}
-use Rattle.scheduler.specs.Stretch.{Event, trace, final, accepted, named, ticksIn, allTicks, ticksBy, anyone, throughout}
+use Rattle.scheduler.specs.Stretch.{Event, trace, final, accepted, named, sumIn, ticksIn, allTicks, ticksBy, anyone, throughout}
 use Rattle.scheduler.specs.Stretch.{keepsAdmitted, Present}
 use Rattle.scheduler.proofs.Facts.{reserved-admitted}
 use Rattle.scheduler.proofs.Steps.{meter-step}
@@ -22,7 +22,7 @@ use Rattle.scheduler.proofs.Share.Stretch.{Attributed, events, replied}
 
 -- W is the meter's growth over the stretch.
 pub meter-growth : (cs : List Call) (s : Scheduler) (last : ℕ) → s .meter + allTicks last (trace s cs) ≡ (final s cs) .meter
-unfolding allTicks trace final ticksIn named accepted step accept refuse
+unfolding allTicks trace final ticksIn sumIn named accepted step accept refuse
 meter-growth [] s last = omega arith
 meter-growth (c ∷ cs) s last =
     by (λ b. eqb (refusal c s) 0 ≡ b → Grows (replied c s b)) (eqb (refusal c s) 0)
@@ -42,7 +42,7 @@ Counts y last cs s z es =
 counts-accepted : (y last : ℕ) (c : Call) (cs : List Call) (s : Scheduler) → refusal c s ≡ 0 → Attributed last s
     → ((s : Scheduler) (last : ℕ) → Attributed last s → Counts y last cs s (final s cs) (trace s cs))
     → Counts y last cs s (final (effect c s) cs) (events c cs s (accept c s))
-unfolding Counts throughout ticksIn named accepted accept
+unfolding Counts throughout ticksIn sumIn named accepted accept
 counts-accepted y last c cs s e at ih a t =
     let s′ = effect c s in
     let last′ = cond (isDispatch c) (cond (isDispatch c) (chosen s) 0) last in
@@ -56,7 +56,7 @@ counts-accepted y last c cs s e at ih a t =
     )
 
 counts : (y : ℕ) (cs : List Call) (s : Scheduler) (last : ℕ) → Attributed last s → Counts y last cs s (final s cs) (trace s cs)
-unfolding Counts trace final throughout ticksIn named accepted step accept refuse
+unfolding Counts trace final throughout ticksIn sumIn named accepted step accept refuse
 counts y [] s last at = λ a t. omega arith
 counts y (c ∷ cs) s last at =
     by (λ b. eqb (refusal c s) 0 ≡ b → Counts y last cs s (final ((replied c s b) .state) cs) (events c cs s (replied c s b)))

@@ -1,13 +1,13 @@
 -- One accepted call. The potential of x is f × (what may still run before x) + h × (what x used of its quantum); each accepted call
--- charges those that count at most what the potential falls, and x's own ticks pay at the rate h.
+-- charges those that count at most what the potential falls and what they overran, and x's own ticks pay at the rate h.
 use Prim.Native.Nat.{ℕ, _+_, _-_, _*_, _≤_, _<_}
 use mathlib.Core.Path.{_≡_, refl, sym, ap, subst, _∙_, fun-ext}
 use mathlib.Core.List.{List, [], _∷_, _++_}
 use mathlib.Core.Bool.{Bool, true, false, not, cond, _||_, false≢true}
 use native.Mathlib.Omega.{arith}
-use native.Mathlib.Nat.{le-of-eq, min-le-left}
+use native.Mathlib.Nat.{mul-le-mul-left, min-le-left}
 use lib.Dec.{T, eqb}
-use borrow.Author.Tests.{eqb-true, eqb-false, leb-true}
+use borrow.Author.Tests.{eqb-true, eqb-false}
 use Rattle.base.specs.Checks.{firstOf}
 use Rattle.base.specs.Lists.{member, without}
 use Rattle.base.proofs.Bools.{by, is, isn't, clash}
@@ -18,14 +18,15 @@ use Rattle.scheduler.specs.declared.Scheduler.{Scheduler}
 use Rattle.scheduler.specs.State.{noThread, noGroup, threadAt, admittedAt, blockedAt, runnableAt, reservedAt, reservationAt}
 use Rattle.scheduler.specs.State.{allotmentAt, listed, sliceAt, withThread, withGroup, withList, withRun}
 use Rattle.scheduler.specs.Refusals.{Call, openGroup, closeGroup, admit, remove, wake, dispatch, report, checks, refusal}
-use Rattle.scheduler.specs.Effects.{rear, toRear, offList, join, newThread, renewed, chargedThread, charged, exited, reported, chosen}
-use Rattle.scheduler.specs.Effects.{effect}
+use Rattle.scheduler.specs.Effects.{rear, toRear, offList, join, newThread, usedUp, renewed, chargedThread, charged, exited}
+use Rattle.scheduler.specs.Effects.{reported, chosen, effect}
 use Rattle.scheduler.specs.Stretch.{keeps, ticksOf, keepsRunnable}
+use Rattle.scheduler.proofs.Debt.{used-most}
 use Rattle.scheduler.proofs.Facts.{Facts, facts, reserved-admitted, admitted-reserved, in-threads, member-reserved, below-quantum}
 use Rattle.scheduler.proofs.Facts.{fits, take-rear, take-off, room, listed-join, unlisted}
 use Rattle.scheduler.proofs.Share.Gauge.{gauge, gauge-join, gauge-leave, gauge-run, gauge-stay, gauge-off, gauge-rear, gauge-self}
 use Rattle.scheduler.proofs.Share.Gauge.{gauge-turn, quiet-step, run-step, turn-step}
-use Rattle.scheduler.proofs.Steps.{allotment-other, slice-other, charged-left, charged-full, woken-allotment}
+use Rattle.scheduler.proofs.Steps.{allotment-other, slice-other, charged-left, charged-debt, woken-allotment}
 use Rattle.scheduler.proofs.Passed.{passes, admit-passed, remove-passed, wake-passed, dispatch-passed, report-passed, reported-cases}
 
 -- the potential of x, with the threads that sel picks
@@ -135,8 +136,9 @@ module _ (sel : ℕ → Bool) (x : ℕ) (off : sel x ≡ false) (s : Scheduler) 
         ));
   }
 
-  -- a report by another thread
-  module _ (r : ℕ) (is-r : s .running ≡ r) (runs : r ≡ 64 → ⊥) (other : r ≡ x → ⊥) (reason used : ℕ) (fit : used ≤ sliceAt s r) where
+  -- a report by another thread: it pays what is within its slice
+  module _ (r : ℕ) (is-r : s .running ≡ r) (runs : r ≡ 64 → ⊥) (other : r ≡ x → ⊥) (reason used paid : ℕ) (fit : paid ≤ sliceAt s r)
+      (part : paid ≤ used) where
     r-adm : T (admittedAt s r)
     r-adm = subst (λ (j : ℕ). T (admittedAt s j)) is-r ((k .run (λ z. runs (sym is-r ∙ z))) .admitted)
 
@@ -148,11 +150,11 @@ module _ (sel : ℕ → Bool) (x : ℕ) (off : sel x ≡ false) (s : Scheduler) 
     unfolding weight
     weight-r = ap (λ (j : ℕ). gauge sel x (allotmentAt s) (listed s) j (sliceAt s j)) is-r
 
-    less : used ≤ allotmentAt s r
+    less : paid ≤ allotmentAt s r
     unfolding sliceAt
     less = omega (arith, fit, min-le-left (allotmentAt s r) (s .settings .interval))
 
-    exit-quiet : Quiet sel x s (exited r used s) (cond (sel r) used 0)
+    exit-quiet : Quiet sel x s (exited r used s) (cond (sel r) paid 0)
     unfolding weight exited offList withList withRun withThread listed allotmentAt sliceAt rear
     exit-quiet =
         let at = withThread s r noThread in
@@ -162,12 +164,12 @@ module _ (sel : ℕ → Bool) (x : ℕ) (off : sel x ≡ false) (s : Scheduler) 
           same-settings = refl;
           same-allotment = same x (λ z. other (sym z));
           lighter =
-              subst (λ (z : List ℕ). gauge sel x (allotmentAt at) z 64 (sliceAt at 64) + cond (sel r) used 0 ≤ weight sel x s) (sym l)
-              (rw weight-r (gauge-off sel x off (sliceAt s r) (listed s) x-in (allotmentAt s) (allotmentAt at) r used same other runs
+              subst (λ (z : List ℕ). gauge sel x (allotmentAt at) z 64 (sliceAt at 64) + cond (sel r) paid 0 ≤ weight sel x s) (sym l)
+              (rw weight-r (gauge-off sel x off (sliceAt s r) (listed s) x-in (allotmentAt s) (allotmentAt at) r paid same other runs
               (sliceAt at 64) fit less));
         }
 
-    rear-quiet : Quiet sel x s (toRear r (charged r reason used s)) (cond (sel r) used 0)
+    rear-quiet : Quiet sel x s (toRear r (charged r reason used s)) (cond (sel r) paid 0)
     unfolding weight toRear charged withList withRun withThread listed allotmentAt sliceAt rear
     rear-quiet =
         let t = chargedThread s reason used (threadAt s r) in
@@ -178,12 +180,12 @@ module _ (sel : ℕ → Bool) (x : ℕ) (off : sel x ≡ false) (s : Scheduler) 
           same-settings = refl;
           same-allotment = same x (λ z. other (sym z));
           lighter =
-              subst (λ (z : List ℕ). gauge sel x (allotmentAt at) z 64 (sliceAt at 64) + cond (sel r) used 0 ≤ weight sel x s) (sym l)
-              (rw weight-r (gauge-rear sel x off (sliceAt s r) (listed s) x-in (allotmentAt s) (allotmentAt at) r used same other runs
+              subst (λ (z : List ℕ). gauge sel x (allotmentAt at) z 64 (sliceAt at 64) + cond (sel r) paid 0 ≤ weight sel x s) (sym l)
+              (rw weight-r (gauge-rear sel x off (sliceAt s r) (listed s) x-in (allotmentAt s) (allotmentAt at) r paid same other runs
               (sliceAt at 64) fit less));
         }
 
-    stay-quiet : renewed reason used (threadAt s r) ≡ false → Quiet sel x s (charged r reason used s) (cond (sel r) used 0)
+    stay-quiet : renewed reason used (threadAt s r) ≡ false → Quiet sel x s (charged r reason used s) (cond (sel r) paid 0)
     unfolding weight charged withRun withThread listed allotmentAt sliceAt
     stay-quiet e =
         let t = chargedThread s reason used (threadAt s r) in
@@ -193,19 +195,19 @@ module _ (sel : ℕ → Bool) (x : ℕ) (off : sel x ≡ false) (s : Scheduler) 
           same-settings = refl;
           same-allotment = same x (λ z. other (sym z));
           lighter =
-              rw weight-r (gauge-stay sel x off (sliceAt s r) (listed s) x-in (allotmentAt s) (allotmentAt at) r used same other runs
-              (sliceAt at 64) fit less (le-of-eq (charged-left s r reason used (in-threads s k r r-adm) e)));
+              rw weight-r (gauge-stay sel x off (sliceAt s r) (listed s) x-in (allotmentAt s) (allotmentAt at) r paid same other runs
+              (sliceAt at 64) fit less (omega (arith, charged-left s r reason used (in-threads s k r r-adm) e)));
         }
 
     -- every way a report by another thread can end
-    report-quiet : Quiet sel x s (reported r reason used s) (cond (sel r) used 0)
+    report-quiet : Quiet sel x s (reported r reason used s) (cond (sel r) paid 0)
     report-quiet =
-        reported-cases (λ s′. Quiet sel x s s′ (cond (sel r) used 0)) r reason used s (λ _. exit-quiet) (λ _ _. rear-quiet)
+        reported-cases (λ s′. Quiet sel x s s′ (cond (sel r) paid 0)) r reason used s (λ _. exit-quiet) (λ _ _. rear-quiet)
         (λ _ e. stay-quiet e)
 
-  -- a report by x, with reason 0
+  -- a report by x, with reason 0: whatever it used, so its own overruns cost nothing
   module _ (f h : ℕ) (is-x : s .running ≡ x) (is-f : reservationAt s x ≡ f) (sum : sumOf (mask sel (reservationAt s)) (listed s) ≤ h)
-      (used : ℕ) (fit : used ≤ sliceAt s x) where
+      (used : ℕ) where
     bound : allotmentAt s x ≤ f * s .settings .thousandth
     bound = subst (λ (j : ℕ). allotmentAt s x ≤ j * s .settings .thousandth) is-f (below-quantum s k x own)
 
@@ -224,16 +226,19 @@ module _ (sel : ℕ → Bool) (x : ℕ) (off : sel x ≡ false) (s : Scheduler) 
         (charged-left s x 0 used (in-threads s k x adm) e)
         (gauge-self sel x off (sliceAt s x) (listed s) x-in (allotmentAt s) (allotmentAt at) (sliceAt at 64) (allotment-other s x t)))
 
-    -- the whole allotment was used
-    used-up : renewed 0 used (threadAt s x) ≡ true → used ≡ allotmentAt s x
-    unfolding renewed allotmentAt sliceAt
-    used-up e =
-        omega (arith, leb-true ((threadAt s x) .allotment) used e, min-le-left ((threadAt s x) .allotment) (s .settings .interval), fit)
+    some : 1 ≤ allotmentAt s x
+    unfolding allotmentAt
+    some = (k .thread x own) .fit .some
+
+    -- the whole allotment was used, or more
+    used-all : usedUp used (threadAt s x) ≡ true → allotmentAt s x ≤ used
+    unfolding allotmentAt
+    used-all e = used-most used (threadAt s x) e
 
     each : (n : ℕ) → T (member n (listed s)) → allotmentAt s n ≤ reservationAt s n * s .settings .thousandth
     each n u = below-quantum s k n (member-reserved s k n u)
 
-    self-turn : renewed 0 used (threadAt s x) ≡ true
+    self-turn : usedUp used (threadAt s x) ≡ true
         → potential f h sel x (toRear x (charged x 0 used s)) ≤ potential f h sel x s + h * used
     unfolding weight potential toRear charged withList withRun withThread listed rear allotmentAt sliceAt
     self-turn e =
@@ -245,13 +250,14 @@ module _ (sel : ℕ → Bool) (x : ℕ) (off : sel x ≡ false) (s : Scheduler) 
         ≤ potential f h sel x s + h * used) (sym l)
         (turn-step f h (s .settings .thousandth) used (weight sel x s) (gauge sel x al (without x (listed s) ++ x ∷ []) 64 (sliceAt at 64))
         (allotmentAt s x) (al x)
-        (charged-full s x 0 used (in-threads s k x adm) e ∙ ap (λ (j : ℕ). j * s .settings .thousandth) is-f)
-        (used-up e)
+        (charged-debt s x 0 used (in-threads s k x adm) some e ∙ ap (λ (j : ℕ). allotmentAt s x + j * s .settings .thousandth - used) is-f)
+        (used-all e)
         bound
         (gauge-turn sel x off (sliceAt s x) (listed s) x-in (allotmentAt s) al (sliceAt at 64) (allotment-other s x t) (reservationAt s)
         (s .settings .thousandth) h each sum))
 
     self-report : potential f h sel x (reported x 0 used s) ≤ potential f h sel x s + h * used
+    unfolding renewed
     self-report =
         reported-cases (λ s′. potential f h sel x s′ ≤ potential f h sel x s + h * used) x 0 used s
         (λ e. absurd (false≢true e)) (λ _ e. self-turn e) (λ _ e. self-stay e)
@@ -262,13 +268,23 @@ nothing : (f : ℕ) (b : Bool) → f * cond b 0 0 ≡ 0
 nothing f true = omega arith
 nothing f false = omega arith
 
-unfoldable pub StepBound : (f h : ℕ) → (ℕ → Bool) → ℕ → Scheduler → Scheduler → ℕ → ℕ → Type 0
-StepBound f h sel x s s′ last t = f * cond (sel last) t 0 + potential f h sel x s′ ≤ potential f h sel x s + h * cond (eqb last x) t 0
+-- t: the ticks of the call; o: those beyond the slice
+unfoldable pub StepBound : (f h : ℕ) → (ℕ → Bool) → ℕ → Scheduler → Scheduler → ℕ → ℕ → ℕ → Type 0
+StepBound f h sel x s s′ last t o =
+    f * cond (sel last) t 0 + potential f h sel x s′ ≤ potential f h sel x s + h * cond (eqb last x) t 0 + f * cond (sel last) o 0
 
-quiet-bound : (f h : ℕ) (sel : ℕ → Bool) (x : ℕ) (s s′ : Scheduler) (last : ℕ) → Quiet sel x s s′ 0 → StepBound f h sel x s s′ last 0
+quiet-bound : (f h : ℕ) (sel : ℕ → Bool) (x : ℕ) (s s′ : Scheduler) (last : ℕ) → Quiet sel x s s′ 0
+    → StepBound f h sel x s s′ last 0 (0 - sliceAt s (s .running))
 unfolding StepBound
 quiet-bound f h sel x s s′ last q =
     omega (arith, quiet-potential f h sel x s s′ 0 q, nothing f (sel last), nothing h (eqb last x))
+
+-- ticks in two parts
+in-parts : (f : ℕ) (b : Bool) (t o : ℕ) → o ≤ t → f * cond b t 0 ≤ f * cond b (t - o) 0 + f * cond b o 0
+in-parts f true t o h =
+    let le : t ≤ t - o + o = omega arith in
+    omega (arith, mul-le-mul-left f le)
+in-parts f false t o h = omega arith
 
 -- x is protected in the state
 pub record Guarded (f : ℕ) (x : ℕ) (s : Scheduler) : Type 0 where
@@ -280,33 +296,34 @@ module _ (f h : ℕ) (sel : ℕ → Bool) (x : ℕ) (off : sel x ≡ false) (s :
     (attributed : (s .running ≡ 64 → ⊥) → s .running ≡ last)
     (guard : Guarded f x s) (sum : sumOf (mask sel (reservationAt s)) (listed s) ≤ h) where
   report-bound : (reason used : ℕ) → Facts s → firstOf (checks (report reason used) s) ≡ 0 → T (keepsRunnable x last (report reason used))
-      → StepBound f h sel x s (reported (s .running) reason used s) last used
+      → StepBound f h sel x s (reported (s .running) reason used s) last used (used - sliceAt s (s .running))
   unfolding StepBound checks keeps
   report-bound reason used k e keep =
       let ok = report-passed s reason used e in
       let runs = ok .0 in
-      let fit = ok .1 in
+      let o = used - sliceAt s (s .running) in
       let is-last = attributed runs in
       by (λ b. T (not b || eqb reason 0) → eqb last x ≡ b → f * cond (sel last) used 0 + potential f h sel x
-      (reported (s .running) reason used s) ≤ potential f h sel x s + h * cond b used 0) (eqb last x)
+      (reported (s .running) reason used s) ≤ potential f h sel x s + h * cond b used 0 + f * cond (sel last) o 0) (eqb last x)
       (λ q u _.
       let is-x : s .running ≡ x = is-last ∙ eqb-true last x q in
       let off′ : sel last ≡ false = ap sel (eqb-true last x q) ∙ off in
       let z : reason ≡ 0 = eqb-true reason 0 (is (eqb reason 0) u) in
-      let b =
-      self-report sel x off s k (guard .reserved) f h is-x (guard .amount) sum used (subst (λ (j : ℕ). used ≤ sliceAt s j) is-x fit) in
-      rw off′ (subst (λ (j : ℕ). f * 0 + potential f h sel x (reported j reason used s) ≤ potential f h sel x s + h * used) (sym is-x)
-      (subst (λ (j : ℕ). f * 0 + potential f h sel x (reported x j used s) ≤ potential f h sel x s + h * used) (sym z) (omega arith))))
+      let b = self-report sel x off s k (guard .reserved) f h is-x (guard .amount) sum used in
+      let most = potential f h sel x s + h * used + f * 0 in
+      rw off′ (subst (λ (j : ℕ). f * 0 + potential f h sel x (reported j reason used s) ≤ most) (sym is-x)
+      (subst (λ (j : ℕ). f * 0 + potential f h sel x (reported x j used s) ≤ most) (sym z) (omega arith))))
       (λ q u _.
       let ne : s .running ≡ x → ⊥ = λ w. eqb-false last x q (sym is-last ∙ w) in
       let b =
-      quiet-potential f h sel x s (reported (s .running) reason used s) (cond (sel (s .running)) used 0)
-      (report-quiet sel x off s k (guard .reserved) (s .running) refl runs ne reason used fit) in
-      rw (← is-last) (omega arith))
+      quiet-potential f h sel x s (reported (s .running) reason used s) (cond (sel (s .running)) (used - o) 0)
+      (report-quiet sel x off s k (guard .reserved) (s .running) refl runs ne reason used (used - o) (omega arith) (omega arith)) in
+      rw (← is-last) (omega (arith, b, in-parts f (sel (s .running)) used o (omega arith))))
       keep
       refl
 
-  pub step-bound : (c : Call) → refusal c s ≡ 0 → T (keepsRunnable x last c) → StepBound f h sel x s (effect c s) last (ticksOf c)
+  pub step-bound : (c : Call) → refusal c s ≡ 0 → T (keepsRunnable x last c)
+      → StepBound f h sel x s (effect c s) last (ticksOf c) (ticksOf c - sliceAt s (s .running))
   unfolding effect checks keeps ticksOf
   step-bound (openGroup n p c) e keep =
       quiet-bound f h sel x s (effect (openGroup n p c) s) last (group-quiet sel x s n (record { ceiling = c; parent = p; opened = 1 }))

@@ -1,6 +1,6 @@
 -- The potential over a whole stretch, by induction over the list of calls: the ticks of those that count and the last potential are at
--- most the first potential and what x's own ticks pay.
-use Prim.Native.Nat.{ℕ, _+_, _*_, _≤_}
+-- most the first potential, what x's own ticks pay and the overruns of those that count.
+use Prim.Native.Nat.{ℕ, _+_, _-_, _*_, _≤_}
 use mathlib.Core.Path.{_≡_, refl, _∙_}
 use mathlib.Core.List.{List, [], _∷_}
 use mathlib.Core.Bool.{Bool, false, cond}
@@ -10,12 +10,13 @@ use borrow.Author.Tests.{eqb-true}
 use Rattle.base.proofs.Bools.{by, and-l, and-r}
 use Rattle.base.proofs.Lists.{sumOf, mask}
 use Rattle.scheduler.specs.declared.Scheduler.{Scheduler}
-use Rattle.scheduler.specs.State.{reservedAt, reservationAt, listed}
+use Rattle.scheduler.specs.State.{reservedAt, reservationAt, listed, sliceAt}
 use Rattle.scheduler.specs.Sound.{sound}
 use Rattle.scheduler.specs.Refusals.{Call, refusal}
 use Rattle.scheduler.specs.Effects.{chosen, effect}
 use Rattle.scheduler.specs.Rule.{Reply, isDispatch, accept, refuse, step}
-use Rattle.scheduler.specs.Stretch.{Event, trace, final, accepted, ticksOf, named, ticksIn, throughout, keepsRunnable, keepsAdmitted}
+use Rattle.scheduler.specs.Stretch.{Event, trace, final, accepted, ticksOf, overrunOf, named, sumIn, ticksIn, overrunsIn}
+use Rattle.scheduler.specs.Stretch.{throughout, keepsRunnable, keepsAdmitted}
 use Rattle.scheduler.proofs.Facts.{reserved-admitted}
 use Rattle.scheduler.proofs.Passed.{passes}
 use Rattle.scheduler.proofs.Share.Step.{potential, Guarded, StepBound, step-bound}
@@ -43,11 +44,12 @@ unfoldable pub Bound : (f h : ℕ) → (ℕ → Bool) → (x y : ℕ) → Schedu
 Bound f h sel x y s z last es =
     T (throughout (keepsRunnable x) last es) → T (throughout (keepsAdmitted y) last es)
     → f * ticksIn sel last es + potential f h sel x z ≤ potential f h sel x s + h * ticksIn (λ n. eqb n x) last es
+    + f * overrunsIn sel last es
 
 -- a refused call changes nothing
 refused-bound : (f h : ℕ) (sel : ℕ → Bool) (x y : ℕ) (s : Scheduler) (last : ℕ) (c : Call) (cs : List Call) (k : ℕ) → eqb k 0 ≡ false
     → Bound f h sel x y s (final s cs) last (trace s cs) → Bound f h sel x y s (final s cs) last (events c cs s (refuse k s))
-unfolding Bound throughout ticksIn named accepted refuse
+unfolding Bound throughout ticksIn overrunsIn sumIn named accepted refuse
 refused-bound f h sel x y s last c cs k q ih =
     rw q (λ a b. omega (arith, ih a b))
 
@@ -72,14 +74,15 @@ module _ (f g h : ℕ) (sel : ℕ → Bool) (x y : ℕ) (off : sel x ≡ false)
       → ((s : Scheduler) (last : ℕ) → Attributed last s → Guarded f x s → Reserved g y s → Bound f h sel x y s (final s cs) last
       (trace s cs))
       → Bound f h sel x y s (final (effect c s) cs) last (events c cs s (accept c s))
-  unfolding Bound throughout ticksIn named accepted accept next StepBound
+  unfolding Bound throughout ticksIn overrunsIn sumIn overrunOf named accepted accept next StepBound
   accepted-bound s last c cs e at k r ih a b =
       let s′ = effect c s in
       let last′ = next last c s in
       let keep : T (keepsRunnable x last c) = and-l (keepsRunnable x last c) (throughout (keepsRunnable x) last′ (trace s′ cs)) a in
       let stays : T (keepsAdmitted y last c) = and-l (keepsAdmitted y last c) (throughout (keepsAdmitted y) last′ (trace s′ cs)) b in
       let sum = sum-of s ((passes c s e) .0) k r in
-      let one : f * cond (sel last) (ticksOf c) 0 + potential f h sel x s′ ≤ potential f h sel x s + h * cond (eqb last x) (ticksOf c) 0 =
+      let one : f * cond (sel last) (ticksOf c) 0 + potential f h sel x s′ ≤ potential f h sel x s + h * cond (eqb last x) (ticksOf c) 0
+      + f * cond (sel last) (ticksOf c - sliceAt s (s .running)) 0 =
       step-bound f h sel x off s last at k sum c e keep in
       let of-x = held x last c s e at (reserved-admitted s x (k .reserved)) (runnable-admitted x last c keep) in
       let of-y = held y last c s e at (reserved-admitted s y (r .reserved)) stays in
@@ -90,7 +93,7 @@ module _ (f g h : ℕ) (sel : ℕ → Bool) (x y : ℕ) (off : sel x ≡ false)
 
   pub stretch : (cs : List Call) (s : Scheduler) (last : ℕ) → Attributed last s → Guarded f x s → Reserved g y s
       → Bound f h sel x y s (final s cs) last (trace s cs)
-  unfolding trace final step Bound ticksIn accept refuse
+  unfolding trace final step Bound ticksIn overrunsIn sumIn accept refuse
   stretch [] s last at k r = λ a b. omega arith
   stretch (c ∷ cs) s last at k r =
       by (λ b. eqb (refusal c s) 0 ≡ b → Bound f h sel x y s (final ((replied c s b) .state) cs) last (events c cs s (replied c s b)))

@@ -4,7 +4,7 @@ use mathlib.Core.Path.{_≡_, refl, sym, subst, _∙_}
 use mathlib.Core.List.{List, [], _∷_, _++_}
 use mathlib.Core.Bool.{Bool, true, false, cond, _&&_}
 use native.Mathlib.Omega.{arith}
-use native.Mathlib.Nat.{le-refl, mul-pos, min-le-right}
+use native.Mathlib.Nat.{le-refl, mul-pos}
 use lib.ListN.{length, length-set}
 use lib.Seq.{set-getD}
 use lib.Dec.{T, ltb, eqb, lit<, lt→ltb}
@@ -15,18 +15,18 @@ use Rattle.base.proofs.Lists.{member-without, everyOf-without, distinct-without
 use Rattle.base.proofs.Lists.{member-last, distinct-snoc}
 use Rattle.scheduler.specs.declared.Thread.{Thread}
 use Rattle.scheduler.specs.declared.Scheduler.{Scheduler}
-use Rattle.scheduler.specs.State.{noThread, threadAt, groupAt, admittedAt, reservedAt, runnableAt, allotmentAt, openAt, listed}
-use Rattle.scheduler.specs.State.{meterLimit, meterMost}
-use Rattle.scheduler.specs.State.{sliceAt, withThread, withList, withRun, isAdmitted, isReserved, isRunnable}
+use Rattle.scheduler.specs.State.{natOf, noThread, threadAt, groupAt, admittedAt, reservedAt, runnableAt, reservationAt, openAt}
+use Rattle.scheduler.specs.State.{listed, meterLimit, meterMost}
+use Rattle.scheduler.specs.State.{usedMost, withThread, withList, withRun, isAdmitted, isReserved, isRunnable}
 use Rattle.scheduler.specs.Sound.{load}
 use Rattle.scheduler.specs.Refusals.{admit, remove, wake, dispatch, free}
-use Rattle.scheduler.specs.Effects.{rear, toRear, offList, join, newThread, wokenThread, renewed, chargedThread, charged, exited}
+use Rattle.scheduler.specs.Effects.{rear, toRear, offList, join, newThread, wokenThread, chargedThread, charged, exited}
 use Rattle.scheduler.specs.Effects.{reported, chosen, effect}
 use Rattle.scheduler.proofs.Facts.{Fit, Account, ThreadFacts, RunFacts, Facts, admitted-reserved, member-admitted, carries}
 use Rattle.scheduler.proofs.Facts.{settings-facts, take-rear, take-off, length-rear, room, listed-join, thread-other, thread-same}
 use Rattle.scheduler.proofs.Facts.{unlisted}
-use Rattle.scheduler.proofs.Passed.{not-used-up, reported-cases, AdmitOk}
-use Rattle.scheduler.proofs.Steps.{chosen-runnable}
+use Rattle.scheduler.proofs.Passed.{reported-cases, AdmitOk}
+use Rattle.scheduler.proofs.Steps.{chosen-runnable, charge-most, after-fits}
 use Rattle.scheduler.proofs.Soundness.Change.{changed-facts, shareOf}
 
 -- Wake, and everything else that changes one thread and not the list.
@@ -113,22 +113,14 @@ wake-facts s k n small a =
 
 -- Report: the running thread is charged.
 
-fit-charged : (s : Scheduler) (reason used : ℕ) (t : Thread) → 1 ≤ s .settings .thousandth → Fit t (s .settings .thousandth)
-    → Fit (chargedThread s reason used t) (s .settings .thousandth)
-unfolding chargedThread
-fit-charged s reason used t m1 k = record {
-  positive = k .positive;
-  at-most = k .at-most;
-  some =
-      by (λ b. renewed reason used t ≡ b → 1 ≤ cond b (t .reservation * s .settings .thousandth) (t .allotment - used))
-      (renewed reason used t)
-      (λ _ _. mul-pos (k .positive) m1)
-      (λ e _. omega (arith, not-used-up reason used t e))
-      refl;
-  bounded =
-      elim (renewed reason used t) as (λ b. cond b (t .reservation * s .settings .thousandth) (t .allotment - used)
-      ≤ t .reservation * s .settings .thousandth)
-      [ true ↦ le-refl (t .reservation * s .settings .thousandth) | false ↦ omega (arith, k .bounded) ];
+fit-charged : (s : Scheduler) → Facts s → (r reason used : ℕ) → T (reservedAt s r) → used ≤ usedMost s r
+    → Fit (chargedThread s reason used (threadAt s r)) (s .settings .thousandth)
+unfolding chargedThread reservationAt
+fit-charged s k r reason used own fit = record {
+  positive = (k .thread r own) .fit .positive;
+  at-most = (k .thread r own) .fit .at-most;
+  some = (after-fits s k r reason used own fit) .0;
+  bounded = (after-fits s k r reason used own fit) .1;
 }
 
 account-charged : (s : Scheduler) (reason used : ℕ) (t : Thread) → Account t (s .meter)
@@ -205,7 +197,7 @@ remove-facts s k n small a ar =
 
 -- Report.
 
-module _ (s : Scheduler) (k : Facts s) (r : ℕ) (is-r : s .running ≡ r) (runs : r ≡ 64 → ⊥) (reason used : ℕ) (fit : used ≤ sliceAt s r)
+module _ (s : Scheduler) (k : Facts s) (r : ℕ) (is-r : s .running ≡ r) (runs : r ≡ 64 → ⊥) (reason used : ℕ) (fit : used ≤ usedMost s r)
   where
     runner : RunFacts s
     runner = k .run (λ z. runs (sym is-r ∙ z))
@@ -223,15 +215,7 @@ module _ (s : Scheduler) (k : Facts s) (r : ℕ) (is-r : s .running ≡ r) (runs
     r-facts = k .thread r r-res
 
     late : s .meter + used ≤ meterMost
-    unfolding sliceAt
-    late =
-        omega (
-          arith,
-          runner .early,
-          fit,
-          min-le-right (allotmentAt s r) (s .settings .interval),
-          (settings-facts (s .settings) (k .settings)) .3,
-        )
+    late = omega (arith, runner .early, fit, charge-most s k r)
 
     o-fits : s .count ≤ length (s .order)
     o-fits = omega (arith, k .count64, k .order64)
@@ -275,7 +259,7 @@ module _ (s : Scheduler) (k : Facts s) (r : ℕ) (is-r : s .running ≡ r) (runs
 
     t-fit : Fit t-new (s .settings .thousandth)
     unfolding t-new
-    t-fit = fit-charged s reason used (threadAt s r) ((settings-facts (s .settings) (k .settings)) .0) (r-facts .fit)
+    t-fit = fit-charged s k r reason used r-res fit
 
     t-account : Account t-new (s .meter + used)
     unfolding t-new
@@ -388,7 +372,7 @@ dispatch-facts s k early =
 -- Admit.
 
 fit-new : (s : Scheduler) (g d : ℕ) → 1 ≤ d → d ≤ 1000 → 1 ≤ s .settings .thousandth → Fit (newThread s g d) (s .settings .thousandth)
-unfolding newThread
+unfolding newThread natOf
 fit-new s g d d1 d1000 m1 = record { positive = d1; at-most = d1000; some = mul-pos d1 m1; bounded = le-refl (d * s .settings .thousandth) }
 
 account-new : (s : Scheduler) (g d : ℕ) → Account (newThread s g d) (s .meter)
