@@ -96,7 +96,7 @@ fn other_targets_are_refused() {
     }
 }
 
-/// An answer that is not looked at, and a state that is lost.
+/// An answer that is not looked at, a state that is lost, and a start without an overrun limit, as before version 2.0.0.
 #[test]
 fn mistakes_do_not_compile() {
     let folder = folder("c-mistakes");
@@ -107,6 +107,10 @@ fn mistakes_do_not_compile() {
         ("mtr_sound(&s); return 0;", "unused"),
         ("mtr_answer a = mtr_dispatch(s); return a == 0;", ""),
         ("mtr_answer a = mtr_wake(s, 5); return a == 0;", ""),
+        (
+            "mtr_answer a = mtr_start(&s, 100, 20000); return a == 0;",
+            "mtr_start",
+        ),
     ];
     for (compiler, standard, name) in standards() {
         let compile = |body: &str| {
