@@ -25,6 +25,7 @@ use Rattle.scheduler.proofs.Share.Step.{weight, potential, Guarded}
 use Rattle.scheduler.proofs.Share.Keep.{runnable-admitted}
 use Rattle.scheduler.proofs.Tree.{listed-most}
 use Rattle.scheduler.proofs.Share.Stretch.{Reserved, Bound, stretch}
+use Rattle.scheduler.proofs.Share.Growth.{punctual}
 
 -- ticks of all, in two parts
 ticks-split : (x last : ℕ) (es : List Event)
@@ -192,3 +193,24 @@ second s t cs x y px py =
     (λ e _. subst (λ (z : ℕ). Second s cs x z) (eqb-true x y e) (omega arith))
     (λ e _. second-apart s t cs x y (eqb-false x y e) px py)
     refl
+
+-- With an overrun limit of 0 the overruns are 0, and the two limits stand without them.
+
+pub owed-punctual : (s : Scheduler) → T (sound s) → s .settings .overrun ≡ 0 → (cs : List Call) (x : ℕ) → Protected s cs x
+    → reservationAt s x * allTicks (s .running) (trace s cs)
+    ≤ 1000 * ticksBy x (s .running) (trace s cs)
+    + 2 * reservationAt s x * (1000 - reservationAt s x) * s .settings .thousandth
+    + reservationAt s x * s .settings .interval
+unfolding overrunsBeside
+owed-punctual s t never cs x px =
+    let o = rw (punctual cs s never (λ n. not (eqb n x)) (s .running)) at (owed s t cs x px) in
+    omega (arith, o)
+
+pub second-punctual : (s : Scheduler) → T (sound s) → s .settings .overrun ≡ 0 → (cs : List Call) (x y : ℕ) → Protected s cs x
+    → Present s cs y
+    → reservationAt s x * ticksBy y (s .running) (trace s cs)
+    ≤ reservationAt s y * ticksBy x (s .running) (trace s cs) + 2 * reservationAt s x * reservationAt s y * s .settings .thousandth
+unfolding overrunsBy
+second-punctual s t never cs x y px py =
+    let o = rw (punctual cs s never (λ n. eqb n y) (s .running)) at (second s t cs x y px py) in
+    omega (arith, o)

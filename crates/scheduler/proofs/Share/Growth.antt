@@ -1,23 +1,25 @@
--- The sums of a stretch are what they seem: W is the meter's growth, and S the growth of the thread's own ticks while it stays
--- admitted. Both go by induction over the list of calls.
-use Prim.Native.Nat.{ℕ, _+_}
-use mathlib.Core.Path.{_≡_, refl}
+-- The sums of a stretch are what they seem: W is the meter's growth, S the growth of the thread's own ticks while it stays admitted, and
+-- overruns are 0 where the overrun limit is. Each goes by induction over the list of calls.
+use Prim.Native.Nat.{ℕ, _+_, _-_}
+use mathlib.Core.Path.{_≡_, refl, ap, _∙_}
 use mathlib.Core.List.{List, [], _∷_}
-use mathlib.Core.Bool.{cond}
+use mathlib.Core.Bool.{Bool, true, false, cond}
 use native.Mathlib.Omega.{arith}
 use lib.Dec.{T, eqb}
 use borrow.Author.Tests.{eqb-true}
 use Rattle.base.proofs.Bools.{by, and-l, and-r}
+use Rattle.scheduler.specs.declared.Settings.{Settings}
 use Rattle.scheduler.specs.declared.Scheduler.{Scheduler}
-use Rattle.scheduler.specs.State.{threadAt, admittedAt}
-use Rattle.scheduler.specs.Refusals.{Call, refusal}
+use Rattle.scheduler.specs.State.{threadAt, admittedAt, sliceAt, usedMost}
+use Rattle.scheduler.specs.Refusals.{Call, openGroup, closeGroup, admit, remove, wake, dispatch, report, refusal}
 use Rattle.scheduler.specs.Effects.{chosen, effect}
 use Rattle.scheduler.specs.Rule.{Reply, isDispatch, accept, refuse, step}
-use Rattle.scheduler.specs.Stretch.{Event, trace, final, accepted, named, sumIn, ticksIn, allTicks, ticksBy, anyone, throughout}
-use Rattle.scheduler.specs.Stretch.{keepsAdmitted, Present}
+use Rattle.scheduler.specs.Stretch.{Event, trace, final, accepted, ticksOf, overrunOf, named, sumIn, ticksIn, overrunsIn, anyone}
+use Rattle.scheduler.specs.Stretch.{allTicks, ticksBy, throughout, keepsAdmitted, Present}
 use Rattle.scheduler.proofs.Facts.{reserved-admitted}
+use Rattle.scheduler.proofs.Passed.{passes, report-passed}
 use Rattle.scheduler.proofs.Steps.{meter-step}
-use Rattle.scheduler.proofs.Share.Keep.{held, running-named}
+use Rattle.scheduler.proofs.Share.Keep.{settings-kept, held, running-named}
 use Rattle.scheduler.proofs.Share.Stretch.{Attributed, events, replied}
 
 -- W is the meter's growth over the stretch.
@@ -69,3 +71,37 @@ pub own-growth : (s : Scheduler) (cs : List Call) (y : ℕ) → Present s cs y
     → (threadAt s y) .ticks + ticksBy y (s .running) (trace s cs) ≡ (threadAt (final s cs) y) .ticks
 unfolding ticksBy Counts
 own-growth s cs y k = counts y cs s (s .running) (λ _. refl) (reserved-admitted s y (k .reserved)) (k .keeps)
+
+-- With an overrun limit of 0 an accepted report stays within its slice,
+in-time : (c : Call) (s : Scheduler) → refusal c s ≡ 0 → s .settings .overrun ≡ 0 → ticksOf c - sliceAt s (s .running) ≡ 0
+unfolding ticksOf usedMost
+in-time (openGroup n p c) s e z = omega arith
+in-time (closeGroup n) s e z = omega arith
+in-time (admit n g f) s e z = omega arith
+in-time (remove n) s e z = omega arith
+in-time (wake n) s e z = omega arith
+in-time dispatch s e z = omega arith
+in-time (report reason used) s e z = omega (arith, (report-passed s reason used ((passes (report reason used) s e) .1)) .1, z)
+
+-- so that every sum of overruns of the stretch is 0, whosever they are.
+pub punctual : (cs : List Call) (s : Scheduler) → s .settings .overrun ≡ 0 → (p : ℕ → Bool) (last : ℕ) → overrunsIn p last (trace s cs) ≡ 0
+unfolding overrunsIn overrunOf trace sumIn named accepted step accept refuse
+punctual [] s z p last = refl
+punctual (c ∷ cs) s z p last =
+    by (λ b. eqb (refusal c s) 0 ≡ b → None (replied c s b)) (eqb (refusal c s) 0)
+    (λ q _.
+    omega (
+      arith,
+      part (p last) (in-time c s (eqb-true (refusal c s) 0 q) z),
+      punctual cs (effect c s) (ap (λ (k : Settings). k .overrun) (settings-kept c s) ∙ z) p
+          (named last (record { call = c; given = s; reply = accept c s })),
+    ))
+    (λ q _. rw q (omega (arith, punctual cs s z p last)))
+    refl
+  where
+    None : Reply → Type 0
+    None r = overrunsIn p last (events c cs s r) ≡ 0
+
+    part : (b : Bool) {n : ℕ} → n ≡ 0 → cond b n 0 ≡ 0
+    part true e = e
+    part false e = refl
