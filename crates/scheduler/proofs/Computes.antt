@@ -3,6 +3,7 @@
 use Rattle.base.specs.Checks.{within, firstOf}
 use Rattle.base.specs.Lists.{member, distinct, without, everyOf, everyBelow, sumBelow, first, passed}
 use Rattle.scheduler.specs.State.{
+  natOf,
   admittedAt,
   blockedAt,
   runnableAt,
@@ -12,6 +13,7 @@ use Rattle.scheduler.specs.State.{
   openAt,
   listed,
   sliceAt,
+  usedMost,
   withThread,
   withGroup,
   withList,
@@ -32,7 +34,7 @@ use Rattle.scheduler.specs.Sound.{
   shapeOk,
   sound,
 }
-use Rattle.scheduler.specs.Refusals.{free, inUse, checks, refusal}
+use Rattle.scheduler.specs.Refusals.{free, inUse, checks, refusal, startRefusal}
 use Rattle.scheduler.specs.Effects.{
   rear,
   toRear,
@@ -40,7 +42,10 @@ use Rattle.scheduler.specs.Effects.{
   join,
   newThread,
   wokenThread,
+  left,
+  usedUp,
   renewed,
+  allotmentAfter,
   chargedThread,
   charged,
   exited,
@@ -51,32 +56,60 @@ use Rattle.scheduler.specs.Effects.{
   started,
 }
 use Rattle.scheduler.specs.Rule.{isDispatch, accept, refuse, step}
-use Rattle.scheduler.specs.Stretch.{keeps, trace, final, accepted, ticksOf, named, ticksIn, allTicks, ticksBy, throughout}
+use Rattle.scheduler.specs.Stretch.{
+  keeps,
+  trace,
+  final,
+  accepted,
+  ticksOf,
+  overrunOf,
+  named,
+  sumIn,
+  ticksIn,
+  overrunsIn,
+  allTicks,
+  ticksBy,
+  overrunsBeside,
+  overrunsBy,
+  throughout,
+}
 
 unfoldable pub lists : Unit {0}
 unfolding within firstOf member distinct without everyOf everyBelow sumBelow first passed
 lists = tt
 
 unfoldable pub state : Unit {0}
-unfolding admittedAt blockedAt runnableAt reservedAt reservationAt allotmentAt openAt listed sliceAt withThread withGroup withList withRun
+unfolding natOf admittedAt blockedAt runnableAt reservedAt reservationAt allotmentAt openAt listed sliceAt usedMost
 state = tt
+
+unfoldable pub writes : Unit {0}
+unfolding withThread withGroup withList withRun
+writes = tt
 
 unfoldable pub soundness : Unit {0}
 unfolding sound shapeOk settingsOk groupsOk groupOk threadOk listOk runningOk load reservedIn ceilingsIn threadIn childOf
 soundness = tt
 
+unfoldable pub charges : Unit {0}
+unfolding left usedUp renewed allotmentAfter chargedThread charged exited reported
+charges = tt
+
 unfoldable pub effects : Unit {0}
-unfolding rear toRear offList join newThread wokenThread renewed chargedThread charged exited reported chosen passedOver effect started
+unfolding rear toRear offList join newThread wokenThread chosen passedOver effect started
 effects = tt
 
 unfoldable pub calls : Unit {0}
-unfolding step refusal checks free inUse isDispatch accept refuse
+unfolding step refusal checks free inUse isDispatch accept refuse startRefusal
 calls = tt
 
+unfoldable pub sums : Unit {0}
+unfolding ticksOf overrunOf sumIn ticksIn overrunsIn allTicks ticksBy overrunsBeside overrunsBy
+sums = tt
+
 unfoldable pub stretches : Unit {0}
-unfolding trace final throughout keeps allTicks ticksBy ticksIn ticksOf accepted named
+unfolding trace final throughout keeps accepted named
 stretches = tt
 
 unfoldable pub computes : Unit {0}
-unfolding lists state soundness effects calls stretches
+unfolding lists state writes soundness charges effects calls sums stretches
 computes = tt

@@ -1,14 +1,17 @@
--- The guarantee's hypotheses are met by a concrete stretch, the listing of RULE 10.1 from the state with both threads admitted: the
--- definitions compute on it.
+-- The guarantee's hypotheses are met by concrete stretches, on which the definitions compute: the listing of RULE 10.1 from the state with
+-- both threads admitted, and one with overruns, which the two limits need. Between them the worked example with an overrun limit.
+use Prim.Native.Nat.{_+_, _-_, _*_, _<_}
 use mathlib.Core.Path.{_≡_, refl}
-use mathlib.Core.List.{List, [], _∷_}
+use mathlib.Core.List.{List, [], _∷_, map}
 use lib.ListN.{take, drop}
-use lib.Dec.{T}
+use lib.Dec.{T, lit<}
+use lib.IntN.{pos}
 use Rattle.scheduler.specs.declared.Scheduler.{Scheduler}
+use Rattle.scheduler.specs.State.{allotmentAt, withThread}
 use Rattle.scheduler.specs.Sound.{sound}
-use Rattle.scheduler.specs.Refusals.{Call, admit, wake, dispatch, report}
+use Rattle.scheduler.specs.Refusals.{Call, admit, wake, dispatch, report, startRefusal}
 use Rattle.scheduler.specs.Effects.{started}
-use Rattle.scheduler.specs.Stretch.{trace, final, allTicks, ticksBy, Protected, Present, Owed, Second}
+use Rattle.scheduler.specs.Stretch.{trace, final, allTicks, ticksBy, overrunsBeside, overrunsBy, Protected, Present, Owed, Second}
 use Rattle.scheduler.proofs.Computes.{computes}
 use Rattle.scheduler.proofs.Guarantee.{owed, second}
 
@@ -21,7 +24,7 @@ calls =
 -- The state with both threads admitted, and the calls from there: 7 stays runnable and 5 stays admitted.
 
 pub two : Scheduler
-two = final (started 100 20000) (take 2 calls)
+two = final (started 100 20000 0) (take 2 calls)
 
 pub rest : List Call
 rest = drop 2 calls
@@ -46,3 +49,79 @@ sums = (refl, refl, refl)
 
 pub shared : Owed two rest 7 × Second two rest 7 5
 shared = (owed two two-sound rest 7 seven, second two two-sound rest 7 5 seven five)
+
+-- A timer that fires late: m = 10, P = 1000, O = 9, and a thread of 10, so that its quantum is 100. Its first slice is 100. A report of 109,
+-- the most, leaves a debt of 9, so the next slice is 91; a yield after 95 of these, a debt of 4, leaves 96.
+
+late : List Call
+late = admit 3 0 10 ∷ dispatch ∷ report 0 110 ∷ report 0 109 ∷ dispatch ∷ report 2 95 ∷ dispatch ∷ []
+
+answers : map (λ e. e .reply .answer) (trace (started 10 1000 9) late) ≡ 0 ∷ 0 ∷ 13 ∷ 0 ∷ 0 ∷ 0 ∷ 0 ∷ []
+unfolding computes late
+answers = refl
+
+slices : map (λ e. e .reply .slice) (trace (started 10 1000 9) late) ≡ 0 ∷ 100 ∷ 0 ∷ 0 ∷ 91 ∷ 0 ∷ 96 ∷ []
+unfolding computes late
+slices = refl
+
+-- O goes up to m − 1, so that m = 1 takes only 0
+limits : map (λ o. startRefusal 10 1000 o) (0 ∷ 9 ∷ 10 ∷ []) ≡ 0 ∷ 0 ∷ 1 ∷ []
+unfolding computes
+limits = refl
+
+limits-one : map (λ o. startRefusal 1 1000 o) (0 ∷ 1 ∷ []) ≡ 0 ∷ 1 ∷ []
+unfolding computes
+limits-one = refl
+
+-- The overruns cannot be left out. m = 10, P = 1, O = 9; 7 has 999 thousandths and 1 tick left, and 5, before it, 1 thousandth and its
+-- quantum of 10: it uses 9, 10, which is a debt of 9, and, after 3 ticks of 7, which had 1, 10 again.
+
+pub tardy : Scheduler
+tardy =
+    let s = final (started 10 1 9) (admit 5 0 1 ∷ admit 7 0 999 ∷ []) in
+    withThread s 7 (record {
+      admission = 0;
+      anchor = 0;
+      ticks = 0;
+      since = 0;
+      allotment = pos 1;
+      reservation = 999;
+      group = 0;
+      status = 1;
+    })
+
+pub overdue : List Call
+overdue = dispatch ∷ report 0 9 ∷ dispatch ∷ report 0 10 ∷ dispatch ∷ report 0 3 ∷ dispatch ∷ report 0 10 ∷ dispatch ∷ []
+
+tardy-sound : T (sound tardy)
+unfolding computes tardy
+tardy-sound = tt
+
+seven-late : Protected tardy overdue 7
+unfolding computes tardy overdue
+seven-late = record { reserved = tt; runnable = tt; keeps = tt }
+
+five-late : Present tardy overdue 5
+unfolding computes tardy overdue
+five-late = record { reserved = tt; keeps = tt }
+
+-- W = 32, S = 3, S2 = 29; V = V2 = 26, and the overruns of 7, which are 2, stand in neither
+late-sums : (allTicks (tardy .running) (trace tardy overdue) ≡ 32) × (ticksBy 7 (tardy .running) (trace tardy overdue) ≡ 3)
+    × (ticksBy 5 (tardy .running) (trace tardy overdue) ≡ 29)
+    × (overrunsBeside 7 (tardy .running) (trace tardy overdue) ≡ 26)
+    × (overrunsBy 5 (tardy .running) (trace tardy overdue) ≡ 26)
+    × (overrunsBy 7 (tardy .running) (trace tardy overdue) ≡ 2)
+unfolding computes tardy overdue
+late-sums = (refl, refl, refl, refl, refl, refl)
+
+-- without V and V2 the limits are below f × W and f × S2
+beyond : (1000 * 3 + 2 * 999 * (1000 - 999) * 10 + 999 * 1 < 999 * 32) × (1 * 3 + 2 * 999 * 1 * 10 < 999 * 29)
+beyond = (lit< tt, lit< tt)
+
+-- both keep their debts: 5 has 1 − 10 + 10, and 7 has 1 − 3 + 9990
+debts : (allotmentAt (final tardy overdue) 5 ≡ 1) × (allotmentAt (final tardy overdue) 7 ≡ 9988)
+unfolding computes tardy overdue
+debts = (refl, refl)
+
+pub shared-late : Owed tardy overdue 7 × Second tardy overdue 7 5
+shared-late = (owed tardy tardy-sound overdue 7 seven-late, second tardy tardy-sound overdue 7 5 seven-late five-late)
