@@ -50,8 +50,8 @@ sums = (refl, refl, refl)
 pub shared : Owed two rest 7 × Second two rest 7 5
 shared = (owed two two-sound rest 7 seven, second two two-sound rest 7 5 seven five)
 
--- A timer that fires late: m = 10, P = 1000, O = 9, and a thread of 10, so that its quantum is 100. Its first slice is 100. A report of 109,
--- the most, leaves a debt of 9, so the next slice is 91; a yield after 95 of these, a debt of 4, leaves 96.
+-- A timer that fires late: m = 10, P = 1000, O = 9, and a thread of 10, so that its quantum is 100. Its first slice is 100. A report of
+-- 109, the most, leaves a debt of 9, so the next slice is 91; a yield after 95 of these, a debt of 4, leaves 96.
 
 late : List Call
 late = admit 3 0 10 ∷ dispatch ∷ report 0 110 ∷ report 0 109 ∷ dispatch ∷ report 2 95 ∷ dispatch ∷ []
