@@ -6,12 +6,12 @@ use mathlib.Core.List.{List, [], _∷_, _++_, map}
 use native.Mathlib.Omega.{arith}
 use native.Mathlib.Numerals.{add-one}
 use borrow.Author.Tests.{lt-ltb, le-ltb, eq-eqb, ne-eqb}
-use lib.IntN.{ℤ}
+use lib.IntN.{ℤ, pos}
 use lib.ListN.{length, getD, take, drop, set, replicate, length-set, length-replicate, length-map}
 use lib.Seq.{length-take-le, take-suc-set, take-suc, getD-take}
 use Rattle.base.specs.Checks.{firstOf}
 use Rattle.scheduler.specs.declared.Scheduler.{Scheduler}
-use Rattle.scheduler.specs.State.{threadAt, allotmentAt}
+use Rattle.scheduler.specs.State.{threadAt}
 use Rattle.scheduler.specs.Sound.{sound}
 use Rattle.scheduler.specs.Accounts.{lagOf, shareOf}
 use Rattle.accounts.specs.declared.Entry.{Entry}
@@ -35,7 +35,7 @@ map-snoc f (y ∷ l) x = ap (λ (k : List _). f y ∷ k) (map-snoc f l x)
 
 -- all zeros
 abbrev pub noEntry : Entry
-noEntry = record { number = 0; state = 0; allotment = 0; share = 0; lag = lib.IntN.pos 0 }
+noEntry = record { number = 0; state = 0; allotment = pos 0; share = 0; lag = pos 0 }
 
 -- the records of the first i keys are made
 pub record Filling (s : Scheduler) (k : Keys) (rows : List Entry) (i : ℕ) : Type 0 where
@@ -90,12 +90,13 @@ module _ (s : Scheduler) (k : Keys) (h : Sorted s k) where
       }
 
 -- the record that the code makes
-pub entry-is : (s : Scheduler) (n state share : ℕ) (lag : ℤ) → state ≡ threadState (s .running) n ((threadAt s n) .status)
+pub entry-is : (s : Scheduler) (n state share : ℕ) (allotment lag : ℤ) → state ≡ threadState (s .running) n ((threadAt s n) .status)
     → share ≡ shareOf (s .meter) (threadAt s n)
+    → allotment ≡ (threadAt s n) .allotment
     → lag ≡ lagOf (s .meter) (threadAt s n)
-    → _≡_ {A = Entry} (record { number = n; state = state; allotment = (threadAt s n) .allotment; share = share; lag = lag }) (entryOf s n)
-unfolding entryOf allotmentAt
-entry-is s n state share lag a b c = λ i. record { number = n; state = a i; allotment = (threadAt s n) .allotment; share = b i; lag = c i }
+    → _≡_ {A = Entry} (record { number = n; state = state; allotment = allotment; share = share; lag = lag }) (entryOf s n)
+unfolding entryOf
+entry-is s n state share allotment lag a b c d = λ i. record { number = n; state = a i; allotment = c i; share = b i; lag = d i }
 
 -- The plan of each answer.
 

@@ -6,7 +6,7 @@ use lib.Dec.{ltb, eqb}
 use lib.ListN.{length, drop}
 use Rattle.base.specs.Checks.{_⇒_, firstOf}
 use Rattle.scheduler.specs.declared.Scheduler.{Scheduler}
-use Rattle.scheduler.specs.State.{threadAt, allotmentAt}
+use Rattle.scheduler.specs.State.{threadAt}
 use Rattle.scheduler.specs.Sound.{sound}
 use Rattle.scheduler.specs.Accounts.{lagOf, shareOf}
 use Rattle.accounts.specs.declared.Entry.{Entry}
@@ -21,7 +21,7 @@ unfoldable pub entryOf : Scheduler → ℕ → Entry
 entryOf s n = record {
   number = n;
   state = threadState (s .running) n ((threadAt s n) .status);
-  allotment = allotmentAt s n;
+  allotment = (threadAt s n) .allotment;
   share = shareOf (s .meter) (threadAt s n);
   lag = lagOf (s .meter) (threadAt s n);
 }

@@ -27,6 +27,9 @@ returns c =
     ap told (toZ-ofZ (sfits-of (c .known-told .given .0 .1)))
     ∙ ap lagOut (sym (c .before .v .given .1) ∙ l .ensures)
 
+cast-t8 : tie.Need-cast-t8
+cast-t8 c = search needs
+
 returns-2 : tie.Need-returns-2
 unfolding lagOut
 returns-2 c =
@@ -34,4 +37,4 @@ returns-2 c =
     ap lagOut (sym (c .before .k .given .1) ∙ l .ensures)
 
 pub mtr-by-value-lag-spec : {M : Type 1} → statement M
-mtr-by-value-lag-spec = tie.close (tie.spec lag-requires enum-known-v enum-known-k returns returns-2)
+mtr-by-value-lag-spec = tie.close (tie.spec lag-requires enum-known-v enum-known-k returns cast-t8 returns-2)

@@ -83,7 +83,7 @@ loop-again c =
     let l2 = l .before in
     let s = l2 .before in
     fills _ _ (s .pre) _ _ (l2 .loop .inv) (l .loop-test .taken) _
-    (entry-is _ _ _ _ _ (c .before .before .state-of .ensures) (c .before .share-of .ensures)
+    (entry-is _ _ _ _ _ _ (c .before .before .state-of .ensures) (c .before .share-of .ensures) ?
     (lag-bits _ _ (key-bounded _ _ (s .pre) _ (l .loop-test .taken)) _ (key-lag _ _ _ (key-at _ _ (s .pre) _ (l .loop-test .taken)))))
 
 returns : tie.Need-returns Inv-loop μ-loop

@@ -1,0 +1,35 @@
+// A thread's quota as numbers: its quantum, its allotment read as a number, and the allotment that a report leaves. Allotments are signed.
+ghost use mathlib.Core.Path.{_≡_};
+ghost use Prim.Native.Nat.{_*_};
+ghost use Rattle.quota.specs.Quota.{natOf, afterReport};
+
+// A signed number from 0 up as a number, and 0 for one below.
+pub fn number_of(a: i32) -> u32
+    ensures { λ r. ⌜ r ≡ natOf a ⌝ }
+{
+    if a < 0 {
+        return 0;
+    }
+    a as u32
+}
+
+// The quantum of a reservation.
+pub fn quantum_of(reservation: u16, thousandth: u16) -> u32
+    ensures { λ r. ⌜ r ≡ reservation * thousandth ⌝ }
+{
+    reservation as u32 * thousandth as u32
+}
+
+// The allotment after a report. What is used up gets the quantum added once, so that a debt is kept; a yield fills what is left.
+pub fn after(allotment: i32, quantum: u32, yields: bool, used: u32) -> i64
+    ensures { λ r. ⌜ r ≡ afterReport allotment quantum yields used ⌝ }
+{
+    let left = allotment as i64 - used as i64;
+    if left <= 0 {
+        return left + quantum as i64;
+    }
+    if yields {
+        return quantum as i64;
+    }
+    left
+}
