@@ -1,7 +1,7 @@
 -- Signed numbers of 32 and 64 bits, as the code's tests, casts, sums and differences read them.
 use Prim.Native.Nat.{ℕ, zero, suc, _+_, _-_, _^_, _≤_, _<_}
 use mathlib.Core.Path.{_≡_, refl, sym, ap, subst, _∙_}
-use mathlib.Core.Bool.{Bool, true, false}
+use mathlib.Core.Bool.{Bool, true, false, cond}
 use native.Mathlib.Omega.{arith}
 use lib.Dec.{T, ltb}
 use lib.IntN.{ℤ, pos, negsuc, natAbs, subℕ, _+ℤ_, _-ℤ_}
@@ -9,9 +9,10 @@ use lib.Signed.{mag, ltZ, leZ, nonNeg}
 use mir.Syntax.{w32, w64}
 use mir.Val.{Fits, SFits, toZ, ofZ}
 use mir.Facts.{toZ-ofZ}
-use borrow.Author.Tests.{ltb-true}
+use borrow.Author.Tests.{ltb-true, ltb-false, le-ltb}
 use Rattle.base.proofs.Bools.{clash, cases}
-use Rattle.quota.specs.Quota.{natOf}
+use Rattle.quota.specs.Quota.{natOf, leftOf, isUsedUp, afterReport}
+use Rattle.quota.proofs.Debt.{pos-sub, pos-of}
 
 -- The reading as a number.
 
@@ -19,6 +20,16 @@ pub below-nat : (z : ℤ) → ltZ z (pos 0) ≡ true → natOf z ≡ 0
 unfolding natOf
 below-nat (pos n) e = absurd (omega (arith, ltb-true n 0 e))
 below-nat (negsuc n) e = refl
+
+pub below-one : (z : ℤ) → ltZ z (pos 1) ≡ true → natOf z < 1
+unfolding natOf
+below-one (pos n) e = ltb-true n 1 e
+below-one (negsuc n) e = omega arith
+
+pub from-one : (z : ℤ) → ltZ z (pos 1) ≡ false → 1 ≤ natOf z
+unfolding natOf
+from-one (pos n) e = ltb-false n 1 e
+from-one (negsuc n) e = absurd (clash (ltZ (negsuc n) (pos 1)) refl e)
 
 -- from 0 up, it may be cast
 pub record Castable (z : ℤ) : Type 0 where
@@ -33,18 +44,20 @@ castable (pos n) f e = record {
 }
 castable (negsuc n) f e = absurd (clash (ltZ (negsuc n) (pos 0)) refl e)
 
+pub castable-one : (z : ℤ) → SFits w32 z → 1 ≤ natOf z → Castable z
+unfolding natOf
+castable-one (pos n) f h = castable (pos n) f (le-ltb n 0 (omega arith))
+castable-one (negsuc n) f h = absurd (omega arith)
+
+-- a number that is small is itself, read from its bits
+pub small : (n : ℕ) → n < 2 ^ 31 → toZ w32 n ≡ pos n
+small n h = toZ-ofZ {w = w32} {z = pos n} (record { sfits = omega arith })
+
 -- a test of two numbers that fit, made on their bits
 pub told : {b : Bool} (x y : ℤ) → SFits w32 x → SFits w32 y → ltZ (toZ w32 (ofZ w32 x)) (toZ w32 (ofZ w32 y)) ≡ b → ltZ x y ≡ b
 told x y hx hy e = (λ i. ltZ (sym (toZ-ofZ hx) i) (sym (toZ-ofZ hy) i)) ∙ e
 
 -- Sums and differences in 64 bits.
-
-pub pos-sub : (a b : ℕ) → pos a -ℤ pos b ≡ subℕ a b
-pos-sub a zero = cases (ltb a zero) (λ e. absurd (none a (ltb-true a zero e))) (λ e. rw e (ap pos (omega arith)))
-  where
-    none : (a : ℕ) → a < zero → ⊥
-    none a h = omega arith
-pos-sub a (suc b) = refl
 
 mag-sub : (a b k : ℕ) → a < k → b < k → mag (subℕ a b) < k
 mag-sub a b k ha hb = cases (ltb a b) (λ e. rw e (omega (arith, ltb-true a b e))) (λ e. rw e (omega arith))
@@ -57,6 +70,25 @@ mag-less (negsuc a) (suc u) h l = omega arith
 mag-add : (z : ℤ) (q : ℕ) → mag z < 2 ^ 33 → q < 2 ^ 32 → mag (z +ℤ pos q) < 2 ^ 34
 mag-add (pos n) q h l = omega arith
 mag-add (negsuc n) q h l = mag-sub q (suc n) (2 ^ 34) (omega arith) (omega arith)
+
+-- an allotment after a report fits 32 bits, where allotment, quantum and ticks are small
+pub after-fits : (a : ℤ) (q used : ℕ) (yields : Bool) → 1 ≤ natOf a → natOf a < 2 ^ 29 → q < 2 ^ 29 → used < 2 ^ 29
+    → SFits w32 (afterReport a q yields used)
+unfolding afterReport leftOf
+after-fits a q used yields h k l m =
+    let low = subst (λ (z : ℤ). mag (z -ℤ pos used) < 2 ^ 29) (sym (pos-of a h))
+    (subst (λ (z : ℤ). mag z < 2 ^ 29) (sym (pos-sub (natOf a) used)) (mag-sub (natOf a) used (2 ^ 29) k m)) in
+    either (isUsedUp a used) yields (record { sfits = mag-more (a -ℤ pos used) q low l }) (record { sfits = omega arith })
+    (record { sfits = omega (arith, low) })
+  where
+    mag-more : (z : ℤ) (q : ℕ) → mag z < 2 ^ 29 → q < 2 ^ 29 → mag (z +ℤ pos q) < 2 ^ 31
+    mag-more (pos n) q h l = omega arith
+    mag-more (negsuc n) q h l = mag-sub q (suc n) (2 ^ 31) (omega arith) (omega arith)
+
+    either : {x y z : ℤ} (b c : Bool) → SFits w32 x → SFits w32 y → SFits w32 z → SFits w32 (cond b x (cond c y z))
+    either true c f g h = f
+    either false true f g h = g
+    either false false f g h = h
 
 -- a number of 32 bits in 64, read from its bits
 pub num-fits : (n : ℕ) → n < 2 ^ 32 → SFits w64 (pos n)

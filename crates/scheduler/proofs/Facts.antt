@@ -19,7 +19,8 @@ use Rattle.scheduler.specs.declared.Thread.{Thread}
 use Rattle.scheduler.specs.declared.Settings.{Settings}
 use Rattle.scheduler.specs.declared.Scheduler.{Scheduler}
 use Rattle.scheduler.specs.State.{noThread, isAdmitted, threadAt, groupAt, admittedAt, reservedAt, reservationAt, allotmentAt, openAt}
-use Rattle.scheduler.specs.State.{natOf, meterLimit, meterMost, sliceMost}
+use Rattle.quota.specs.Quota.{natOf}
+use Rattle.scheduler.specs.State.{meterLimit, meterMost, sliceMost}
 use Rattle.scheduler.specs.State.{listed, runnableAt, withThread, withList}
 use Rattle.scheduler.specs.Sound.{settingsOk, quotaOk, accountOk, load, groupOk, groupsOk, threadOk, listOk, runningOk, shapeOk}
 use Rattle.scheduler.specs.Sound.{sound}

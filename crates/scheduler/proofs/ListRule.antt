@@ -17,10 +17,11 @@ use Rattle.base.proofs.Lists.{without-twice, member-take}
 use Rattle.scheduler.specs.declared.Thread.{Thread}
 use Rattle.scheduler.specs.declared.Scheduler.{Scheduler}
 use Rattle.scheduler.specs.State.{threadAt, admittedAt, blockedAt, runnableAt, reservedAt, allotmentAt, listed, withThread, withGroup}
-use Rattle.scheduler.specs.State.{withList, withRun, isRunnable, isBlocked, natOf, reservationAt, quantum, usedMost}
+use Rattle.quota.specs.Quota.{natOf, leftOf, afterReport}
+use Rattle.scheduler.specs.State.{withList, withRun, isRunnable, isBlocked, reservationAt, quantum, usedMost}
 use Rattle.scheduler.specs.Refusals.{Call, openGroup, closeGroup, admit, remove, wake, dispatch, report, refusal}
 use Rattle.scheduler.specs.Effects.{rear, toRear, offList, join, newThread, wokenThread, renewed, chargedThread, charged, exited}
-use Rattle.scheduler.specs.Effects.{left, usedUp, allotmentAfter, reported, chosen, passedOver, effect}
+use Rattle.scheduler.specs.Effects.{usedUp, allotmentAfter, reported, chosen, passedOver, effect}
 use Rattle.scheduler.specs.Rule.{isDispatch, accept, refuse, step}
 use Rattle.scheduler.proofs.Debt.{all-used, still-left, debt-after}
 use Rattle.scheduler.proofs.Facts.{Facts, facts, reserved-admitted, admitted-reserved, in-threads, member-admitted, fits, take-rear}
@@ -130,7 +131,7 @@ module _ (s : Scheduler) (k : Facts s) (r : ℕ) (own : T (reservedAt s r)) (rea
 
     added : (threadAt (toRear r (charged r reason used s)) r) .allotment
         ≡ (threadAt s r) .allotment -ℤ pos used +ℤ pos (quantum s (reservationAt s r))
-    unfolding allotmentAfter left reservationAt
+    unfolding allotmentAfter usedUp afterReport leftOf reservationAt
     added = signed ∙ rw up refl
 
     summed : allotmentAt (toRear r (charged r reason used s)) r + used ≡ allotmentAt s r + quantum s (reservationAt s r)
@@ -169,7 +170,7 @@ debt-kept reason used s e small all =
 pub yield-fills : (used : ℕ) (s : Scheduler) → refusal (report 2 used) s ≡ 0 → used < allotmentAt s (s .running)
     → (listed (effect (report 2 used) s) ≡ without (s .running) (listed s) ++ s .running ∷ [])
     × ((threadAt (effect (report 2 used) s) (s .running)) .allotment ≡ pos (quantum s (reservationAt s (s .running))))
-unfolding effect renewed allotmentAfter allotmentAt reservationAt
+unfolding effect renewed allotmentAfter usedUp afterReport allotmentAt reservationAt
 yield-fills used s e some =
     let ok = passes (report 2 used) s e in
     let k = facts s (ok .0) in

@@ -14,7 +14,8 @@ use Rattle.base.proofs.Bools.{by}
 use Rattle.base.proofs.Lists.{first-found}
 use Rattle.scheduler.specs.declared.Thread.{Thread}
 use Rattle.scheduler.specs.declared.Scheduler.{Scheduler}
-use Rattle.scheduler.specs.State.{natOf, threadAt, admittedAt, runnableAt, reservationAt, allotmentAt, listed, sliceAt, usedMost}
+use Rattle.quota.specs.Quota.{natOf}
+use Rattle.scheduler.specs.State.{threadAt, admittedAt, runnableAt, reservationAt, allotmentAt, listed, sliceAt, usedMost}
 use Rattle.scheduler.specs.State.{reservedAt, chargeMost, withThread, withGroup, withList, withRun}
 use Rattle.scheduler.specs.Refusals.{Call, openGroup, closeGroup, admit, remove, wake, dispatch, report, refusal}
 use Rattle.scheduler.specs.Effects.{toRear, offList, join, wokenThread, usedUp, renewed, chargedThread, charged, exited, chosen}

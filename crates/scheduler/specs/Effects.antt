@@ -4,8 +4,8 @@ use mathlib.Core.List.{List, _∷_, _++_}
 use mathlib.Core.Bool.{Bool, cond, _||_}
 use lib.ListN.{drop, set, replicate}
 use lib.Dec.{eqb}
-use lib.IntN.{ℤ, pos, _+ℤ_, _-ℤ_}
-use lib.Signed.{leZ}
+use lib.IntN.{ℤ, pos}
+use Rattle.quota.specs.Quota.{isUsedUp, afterReport}
 use Rattle.base.specs.Lists.{without, first, passed}
 use Rattle.scheduler.specs.declared.Thread.{Thread}
 use Rattle.scheduler.specs.declared.Scheduler.{Scheduler}
@@ -54,23 +54,16 @@ wokenThread s t = record {
   status = 1;
 }
 
--- RULE 2.5: what a charge leaves of the allotment; a debt is below 0
-unfoldable pub left : ℕ → Thread → ℤ
-left used t = t .allotment -ℤ pos used
-
+-- RULE 2.6: nothing is left of the allotment, or a debt
 unfoldable pub usedUp : ℕ → Thread → Bool
-usedUp used t = leZ (left used t) (pos 0)
+usedUp used t = isUsedUp (t .allotment) used
 
 -- RULE 2.6, 2.7: whether the allotment is renewed and the thread moves to the rear: at a yield, or if nothing is left
 unfoldable pub renewed : ℕ → ℕ → Thread → Bool
 renewed reason used t = eqb reason 2 || usedUp used t
 
--- RULE 2.6, 2.7: the quantum is added once to nothing or a debt; a yield with something left fills the allotment
 unfoldable pub allotmentAfter : Scheduler → ℕ → ℕ → Thread → ℤ
-allotmentAfter s reason used t =
-    cond (usedUp used t) (left used t +ℤ pos (quantum s (t .reservation)))
-    (cond (eqb reason 2) (pos (quantum s (t .reservation)))
-    (left used t))
+allotmentAfter s reason used t = afterReport (t .allotment) (quantum s (t .reservation)) (eqb reason 2) used
 
 -- RULE 2.5: the running thread after the charge. Reasons: 0 tick, 1 block, 2 yield, which sets the anchor after the charge.
 unfoldable pub chargedThread : Scheduler → ℕ → ℕ → Thread → Thread

@@ -9,7 +9,8 @@ use Rattle.base.specs.Lists.{member, distinct, everyOf, everyBelow}
 use Rattle.scheduler.specs.declared.Thread.{Thread}
 use Rattle.scheduler.specs.declared.Group.{Group}
 use Rattle.scheduler.specs.declared.Scheduler.{Scheduler}
-use Rattle.scheduler.specs.State.{natOf, reservedAt, runnableAt, openAt, listed, meterMost, chargeMost}
+use Rattle.quota.specs.Quota.{natOf}
+use Rattle.scheduler.specs.State.{reservedAt, runnableAt, openAt, listed, meterMost, chargeMost}
 use Rattle.scheduler.specs.Sound.{quotaOk, accountOk, threadOk, reservedIn, sound}
 
 -- the state s with these parts in place of its own

@@ -10,7 +10,8 @@ use Rattle.scheduler.specs.declared.Settings.{Settings}
 use Rattle.scheduler.specs.declared.Thread.{Thread}
 use Rattle.scheduler.specs.declared.Scheduler.{Scheduler}
 use Rattle.scheduler.specs.State.{threadAt, groupAt, admittedAt, runnableAt, reservedAt, reservationAt, openAt, listed}
-use Rattle.scheduler.specs.State.{natOf, meterLimit, meterMost, sliceMost}
+use Rattle.quota.specs.Quota.{natOf}
+use Rattle.scheduler.specs.State.{meterLimit, meterMost, sliceMost}
 
 -- RULE 5.1, 1
 unfoldable pub settingsOk : Settings → Bool

@@ -5,7 +5,8 @@ use mathlib.Core.List.{List}
 use mathlib.Core.Bool.{Bool, _&&_}
 use lib.ListN.{getD, take, set}
 use lib.Dec.{ltb, eqb}
-use lib.IntN.{ℤ, pos, negsuc}
+use lib.IntN.{pos}
+use Rattle.quota.specs.Quota.{natOf}
 use Rattle.scheduler.specs.declared.Settings.{Settings}
 use Rattle.scheduler.specs.declared.Thread.{Thread}
 use Rattle.scheduler.specs.declared.Group.{Group}
@@ -73,11 +74,6 @@ reservedAt s n = isReserved (threadAt s n)
 
 unfoldable pub reservationAt : Scheduler → ℕ → ℕ
 reservationAt s n = (threadAt s n) .reservation
-
--- a signed number from 0 up as a number, and 0 for one below
-unfoldable pub natOf : ℤ → ℕ
-natOf (pos n) = n
-natOf (negsuc n) = 0
 
 -- RULE 2.1: a debt reads as 0
 unfoldable pub allotmentAt : Scheduler → ℕ → ℕ

@@ -95,7 +95,7 @@ impl Thread {
                 anchor: meter,
                 ticks: 0,
                 since: 0,
-                allotment: threads::quantum_of(reservation as u16, thousandth),
+                allotment: quota::quantum_of(reservation as u16, thousandth) as i32,
                 reservation: reservation as u16,
                 group: group as u8,
                 status: Self::RUNNABLE,

@@ -6,11 +6,10 @@ ghost use mathlib.Core.Bool.{true, cond, _||_};
 ghost use mathlib.Core.List.{_++_};
 ghost use Prim.Native.Nat.{_+_, _-_, _*_, min, _≤_, _<_};
 ghost use lib.Dec.{eqb};
-ghost use lib.IntN.{pos, _+ℤ_, _-ℤ_};
-ghost use lib.Signed.{leZ, nonNeg};
 ghost use lib.ListN.{take, drop};
 ghost use Rattle.order.specs.Queue.{requeue};
-ghost use Rattle.scheduler.specs.State.{natOf, noThread, meterMost, sliceMost, chargeMost};
+ghost use Rattle.quota.specs.Quota.{natOf};
+ghost use Rattle.scheduler.specs.State.{noThread, meterMost, sliceMost, chargeMost};
 ghost use Rattle.scheduler.specs.Sound.{sound};
 ghost use Rattle.scheduler.specs.Refusals.{remove, wake, dispatch, report};
 ghost use Rattle.scheduler.specs.Effects.{renewed, allotmentAfter, chargedThread, wokenThread, unstarted};
@@ -39,44 +38,6 @@ fn charge(total: u64, used: u64) -> u64
     ensures { λ r. ⌜ r ≡ total + used ⌝ }
 {
     total + used
-}
-
-// A signed number from 0 up as a number, and 0 for one below.
-fn number_of(a: i32) -> u32
-    ensures { λ r. ⌜ r ≡ natOf a ⌝ }
-{
-    if a < 0 {
-        return 0;
-    }
-    a as u32
-}
-
-// The quantum of a reservation.
-pub(crate) fn quantum_of(reservation: u16, thousandth: u16) -> i32
-    requires { ⌜ (reservation ≤ 1000) × (thousandth ≤ 1000) ⌝ }
-    ensures { λ r. ⌜ r ≡ pos (reservation * thousandth) ⌝ }
-{
-    (reservation as u32 * thousandth as u32) as i32
-}
-
-// The allotment after a report. What is used up gets the quantum added once, so that a debt is kept; a yield fills what is left.
-fn allotment_after(allotment: i32, quantum: i32, reason: u64, used: i32) -> i32
-    requires { ⌜ (1 ≤ natOf allotment)
-        × (natOf allotment ≤ sliceMost)
-        × (1 ≤ natOf quantum)
-        × (natOf quantum ≤ sliceMost)
-        × (nonNeg used ≡ true)
-        × (natOf used ≤ chargeMost) ⌝ }
-    ensures { λ r. ⌜ r ≡ cond (leZ (allotment -ℤ used) (pos 0)) (allotment -ℤ used +ℤ quantum) (cond (eqb reason 2) quantum (allotment -ℤ used)) ⌝ }
-{
-    let left = allotment - used;
-    if left <= 0 {
-        return left + quantum;
-    }
-    if reason == YIELD {
-        return quantum;
-    }
-    left
 }
 
 // The answer of a call with a refusal's number, 0 for none.
@@ -130,7 +91,7 @@ impl Thread {
     fn slice(self, interval: u32) -> u32
         ensures { λ r. ⌜ r ≡ min (natOf (self .allotment)) interval ⌝ }
     {
-        let left = number_of(self.allotment);
+        let left = quota::number_of(self.allotment);
         if left < interval { left } else { interval }
     }
 
@@ -164,7 +125,7 @@ impl Thread {
         if reason == YIELD {
             return true;
         }
-        number_of(self.allotment) as u64 <= used
+        quota::number_of(self.allotment) as u64 <= used
     }
 
     // Whether a report moves the thread to the rear. One that ends it takes it off the list from there.
@@ -182,8 +143,8 @@ impl Thread {
         requires { ⌜ Chargeable thousandth used self ⌝ }
         ensures { λ r. ⌜ ((s : Scheduler) → s .settings .thousandth ≡ thousandth → r ≡ allotmentAfter s reason used self) ⌝ }
     {
-        let quantum = quantum_of(self.reservation, thousandth);
-        allotment_after(self.allotment, quantum, reason, used as i32)
+        let quantum = quota::quantum_of(self.reservation, thousandth);
+        quota::after(self.allotment, quantum, reason == YIELD, used as u32) as i32
     }
 
     // The thread after a report that is accepted and leaves the meter at `meter`.

@@ -15,7 +15,8 @@ use Rattle.base.proofs.Lists.{member-without, everyOf-without, distinct-without
 use Rattle.base.proofs.Lists.{member-last, distinct-snoc}
 use Rattle.scheduler.specs.declared.Thread.{Thread}
 use Rattle.scheduler.specs.declared.Scheduler.{Scheduler}
-use Rattle.scheduler.specs.State.{natOf, noThread, threadAt, groupAt, admittedAt, reservedAt, runnableAt, reservationAt, openAt}
+use Rattle.quota.specs.Quota.{natOf}
+use Rattle.scheduler.specs.State.{noThread, threadAt, groupAt, admittedAt, reservedAt, runnableAt, reservationAt, openAt}
 use Rattle.scheduler.specs.State.{listed, meterLimit, meterMost}
 use Rattle.scheduler.specs.State.{usedMost, withThread, withList, withRun, isAdmitted, isReserved, isRunnable}
 use Rattle.scheduler.specs.Sound.{load}

@@ -19,7 +19,8 @@ use Rattle.scheduler.specs.declared.Thread.{Thread}
 use Rattle.scheduler.specs.declared.Group.{Group}
 use Rattle.scheduler.specs.declared.Scheduler.{Scheduler}
 use Rattle.scheduler.specs.State.{noThread, noGroup, threadAt, groupAt, admittedAt, reservedAt, runnableAt, reservationAt, openAt}
-use Rattle.scheduler.specs.State.{natOf, listed}
+use Rattle.quota.specs.Quota.{natOf}
+use Rattle.scheduler.specs.State.{listed}
 use Rattle.scheduler.specs.Sound.{quotaOk, accountOk, threadIn, reservedIn, threadOk}
 use Rattle.scheduler.specs.Inner.{given, boundsOk, Marks, Small, entryOk, ThreadsPass}
 use Rattle.scheduler.proofs.sound.Laws.{same, bump, Sized, sized-none, sized-more, sized-add}

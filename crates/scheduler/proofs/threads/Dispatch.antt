@@ -18,7 +18,8 @@ use Rattle.scheduler.specs.declared.Scheduler.{Scheduler}
 use Rattle.scheduler.specs.declared.Answer.{Answer}
 use Rattle.scheduler.specs.declared.Answer.the-variants.{Refused, Idle, Run}
 use Rattle.scheduler.specs.declared.Answered.{Answered}
-use Rattle.scheduler.specs.State.{natOf, threadAt, runnableAt, reservedAt, allotmentAt, sliceAt, listed, withRun, meterLimit}
+use Rattle.quota.specs.Quota.{natOf}
+use Rattle.scheduler.specs.State.{threadAt, runnableAt, reservedAt, allotmentAt, sliceAt, listed, withRun, meterLimit}
 use Rattle.scheduler.specs.Sound.{sound}
 use Rattle.scheduler.specs.Refusals.{dispatch, checks, refusal}
 use Rattle.scheduler.specs.Effects.{chosen, passedOver, effect}

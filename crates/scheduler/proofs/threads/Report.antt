@@ -17,7 +17,8 @@ use Rattle.scheduler.specs.declared.Thread.{Thread}
 use Rattle.scheduler.specs.declared.Scheduler.{Scheduler}
 use Rattle.scheduler.specs.declared.Answer.{Answer}
 use Rattle.scheduler.specs.declared.Answer.the-variants.{Accepted, Refused}
-use Rattle.scheduler.specs.State.{natOf, noThread, threadAt, admittedAt, reservedAt, sliceAt, allotmentAt, usedMost, listed, stateOf, withThread}
+use Rattle.quota.specs.Quota.{natOf}
+use Rattle.scheduler.specs.State.{noThread, threadAt, admittedAt, reservedAt, sliceAt, allotmentAt, usedMost, listed, stateOf, withThread}
 use Rattle.scheduler.specs.State.{withList, withRun, meterMost}
 use Rattle.scheduler.specs.Sound.{sound}
 use Rattle.scheduler.specs.Refusals.{report, checks, refusal}

@@ -1,88 +1,58 @@
--- `remaining` meets its contract: the bounds of the sum, and its parts read from their bits.
-use Prim.Native.Nat.{ℕ, _*_, _≤_}
-use mathlib.Core.Path.{_≡_, refl, sym, ap, subst, _∙_}
-use mathlib.Core.Bool.{true, cond}
-use native.Mathlib.Nat.{mul-le-mul}
+-- `remaining` meets its contract: the allotment after a report fits its field.
+use Prim.Native.Nat.{ℕ, _*_}
+use mathlib.Core.Path.{_≡_, sym, ap, subst, _∙_}
 use native.Mathlib.Omega.{arith}
 use lib.Dec.{eqb}
-use lib.IntN.{ℤ, pos, _+ℤ_, _-ℤ_}
-use lib.Signed.{leZ, nonNeg}
-use mir.Syntax.{w32}
-use mir.Val.{toZ, ofZ}
+use lib.IntN.{ℤ}
+use mir.Syntax.{w32, w64}
+use mir.Val.{SFits, toZ, ofZ}
 use mir.Facts.{toZ-ofZ}
-use borrow.Author.Needs.{sfits-of}
-use Rattle.scheduler.specs.State.{natOf, sliceMost, chargeMost}
-use Rattle.scheduler.specs.declared.Scheduler.{Scheduler}
-use Rattle.scheduler.specs.Effects.{allotmentAfter, left, usedUp}
-use Rattle.scheduler.specs.Inner.{Chargeable}
-use Rattle.scheduler.proofs.Word.{small, charge-fits}
+use borrow.Author.Needs.{needs, sfits-of}
+use Rattle.quota.specs.Quota.{afterReport}
+use Rattle.scheduler.specs.Effects.{allotmentAfter}
+use Rattle.scheduler.proofs.Word.{report-fits}
 use Rattle.scheduler.proofs.Thread.remaining.Statement.{statement}
 use Rattle.scheduler.proofs.Thread.remaining.Tie as tie
 
--- the allotment, the quantum and the ticks used
-module _ (c : tie.After-struct-told) where
-  abbrev start : tie.Start
-  start = c .before .before
-
-  abbrev a : ℤ
-  a = start .args .self .allotment
-
-  abbrev q : ℕ
-  q = start .args .self .reservation * start .args .thousandth
-
-  abbrev u : ℕ
-  u = start .args .used
-
-  most : q ≤ sliceMost
-  most = omega (arith, mul-le-mul (start .pre .reservation) (start .pre .thousandth))
-
-  a-is : toZ w32 (ofZ w32 a) ≡ a
-  a-is = toZ-ofZ (sfits-of (c .struct-told .given .1 .1 .1 .1 .0 .1))
-
-  q-is : toZ w32 (ofZ w32 (c .before .quantum-of .result)) ≡ pos q
-  q-is = ap (λ (z : ℤ). toZ w32 (ofZ w32 z)) (c .before .quantum-of .ensures) ∙ small q (omega (arith, most))
-
-  u-is : toZ w32 u ≡ pos u
-  u-is = small u (start .pre .short)
-
 quantum-of-requires : tie.Need-quantum-of-requires
-quantum-of-requires c κs = (c .pre .reservation, c .pre .thousandth)
+quantum-of-requires c κs = search needs
 
-cast-allotment-after : tie.Need-cast-allotment-after
-cast-allotment-after c = record { sfits = omega (arith, c .before .pre .short) }
+cast-after : tie.Need-cast-after
+cast-after c = omega (arith, c .before .pre .short)
 
-allotment-after-requires : tie.Need-allotment-after-requires
-unfolding natOf
-allotment-after-requires c κs =
-    let p = start c .pre in (
-      subst (λ (z : ℤ). 1 ≤ natOf z) (sym (a-is c)) (p .some),
-      subst (λ (z : ℤ). natOf z ≤ sliceMost) (sym (a-is c)) (omega (arith, p .bounded, most c)),
-      subst (λ (z : ℤ). 1 ≤ natOf z) (sym (q-is c)) (omega (arith, p .some, p .bounded)),
-      subst (λ (z : ℤ). natOf z ≤ sliceMost) (sym (q-is c)) (most c),
-      subst (λ (z : ℤ). nonNeg z ≡ true) (sym (u-is c)) refl,
-      subst (λ (z : ℤ). natOf z ≤ chargeMost) (sym (u-is c)) (p .short),
-    )
+after-requires : tie.Need-after-requires
+after-requires c κs = search needs
 
--- the sum of these parts
-after : (reason : ℕ) → ℤ → ℤ → ℤ → ℤ
-after reason x y z = cond (leZ (x -ℤ y) (pos 0)) (x -ℤ y +ℤ z) (cond (eqb reason 2) z (x -ℤ y))
+module _ (c : tie.After-after) where
+  abbrev start : tie.Start
+  start = c .before .before .before
 
-made : (c : tie.After-allotment-after) (s : Scheduler) → s .settings .thousandth ≡ start (c .before) .args .thousandth
-    → c .allotment-after .result ≡ allotmentAfter s (start (c .before) .args .reason) (u (c .before)) (start (c .before) .args .self)
-unfolding allotmentAfter usedUp left after
-made c s e =
-    let d = c .before in
-    let g = start d .args in
-    c .allotment-after .ensures
-    ∙ (λ i. after (g .reason) (a-is d i) (u-is d i) (q-is d i))
-    ∙ ap (λ (m : ℕ). after (g .reason) (a d) (pos (u d)) (pos (g .self .reservation * m))) (sym e)
+  abbrev f : ℕ
+  f = start .args .self .reservation
+
+  -- the allotment after a report, with m
+  abbrev left-with : ℕ → ℤ
+  left-with m = afterReport (start .args .self .allotment) (f * m) (eqb (start .args .reason) 2) (start .args .used)
+
+  made : c .after .result ≡ left-with (start .args .thousandth)
+  made =
+      let a-is = toZ-ofZ (sfits-of (c .before .struct-told .given .1 .1 .1 .1 .0 .1)) in
+      c .after .ensures
+      ∙ (λ i. afterReport (a-is i) (c .before .before .quantum-of .ensures i) (eqb (start .args .reason) 2) (start .args .used))
+
+  fits : SFits w32 (left-with (start .args .thousandth))
+  fits = report-fits (start .args .thousandth) (start .args .reason) (start .args .used) (start .args .self) (start .pre)
+
+  -- as it is handed over
+  read : toZ w64 (ofZ w64 (c .after .result)) ≡ left-with (start .args .thousandth)
+  read = ap (λ (z : ℤ). toZ w64 (ofZ w64 z)) made ∙ toZ-ofZ (record { sfits = omega (arith, fits .sfits) })
+
+cast-result : tie.Need-cast-result
+cast-result c = subst (SFits w32) (sym (read c)) (fits c)
 
 returns : tie.Need-returns
-returns c = λ s e.
-    let d = start (c .before) in
-    let g = d .args in
-    ap (λ (z : ℤ). toZ w32 (ofZ w32 z)) (made c s e)
-    ∙ toZ-ofZ (charge-fits s (g .reason) (g .used) (g .self) (subst (λ (m : ℕ). Chargeable m (g .used) (g .self)) (sym e) (d .pre)))
+unfolding allotmentAfter
+returns c = λ s e. ap (λ (z : ℤ). toZ w32 (ofZ w32 z)) (read c) ∙ toZ-ofZ (fits c) ∙ ap (left-with c) (sym e)
 
 pub remaining-spec : {M : Type 1} → statement M
-remaining-spec = tie.close (tie.spec quantum-of-requires cast-allotment-after allotment-after-requires returns)
+remaining-spec = tie.close (tie.spec quantum-of-requires cast-after after-requires cast-result returns)

@@ -5,7 +5,7 @@ use mir.Facts.{toZ-ofZ}
 use lib.Dec.{leb}
 use borrow.Author.Needs.{needs, sfits-of}
 use borrow.Author.Tests.{ne-eqb}
-use Rattle.scheduler.specs.State.{natOf}
+use Rattle.quota.specs.Quota.{natOf}
 use Rattle.scheduler.specs.Effects.{renewed}
 use Rattle.scheduler.proofs.Debt.{used-up}
 use Rattle.scheduler.proofs.Thread.renewed.Statement.{statement}

@@ -4,7 +4,7 @@ use mathlib.Core.Path.{_≡_, sym, _∙_, ap, subst}
 use native.Mathlib.Nat.{min-eq-left, min-eq-right, le-of-lt}
 use mir.Facts.{toZ-ofZ}
 use borrow.Author.Needs.{needs, sfits-of}
-use Rattle.scheduler.specs.State.{natOf}
+use Rattle.quota.specs.Quota.{natOf}
 use Rattle.scheduler.proofs.Thread.slice.Statement.{statement}
 use Rattle.scheduler.proofs.Thread.slice.Tie as tie
 

@@ -7,7 +7,7 @@ use mir.Facts.{toZ-ofZ}
 use borrow.Author.Needs.{needs, sfits-of}
 use borrow.Author.Tests.{not-true, not-false}
 use Rattle.base.specs.Checks.{within}
-use Rattle.scheduler.specs.State.{natOf}
+use Rattle.quota.specs.Quota.{natOf}
 use Rattle.scheduler.specs.Sound.{quotaOk}
 use Rattle.scheduler.proofs.sound.bounds_ok.Statement.{statement}
 use Rattle.scheduler.proofs.sound.bounds_ok.Tie as tie

@@ -9,8 +9,8 @@ use lib.IntN.{pos}
 use lib.Signed.{ltZ}
 use mir.Syntax.{w32}
 use mir.Val.{toZ, ofZ}
-use Rattle.scheduler.specs.State.{natOf}
-use Rattle.scheduler.proofs.Word.{below-one, from-one, castable-one, told}
+use Rattle.quota.specs.Quota.{natOf}
+use Rattle.quota.proofs.Word.{below-one, from-one, castable-one, told}
 use Rattle.scheduler.proofs.sound.Laws.{quota-over, quota-none, quota-fits}
 use Rattle.scheduler.proofs.sound.quota_ok.Statement.{statement}
 use Rattle.scheduler.proofs.sound.quota_ok.Tie as tie
