@@ -2,8 +2,8 @@
 -- a new definition has its place.
 use Rattle.base.specs.Checks.{within, firstOf}
 use Rattle.base.specs.Lists.{member, distinct, without, everyOf, everyBelow, sumBelow, first, passed}
+use Rattle.quota.specs.Quota.{natOf, leftOf, isUsedUp, afterReport}
 use Rattle.scheduler.specs.State.{
-  natOf,
   admittedAt,
   blockedAt,
   runnableAt,
@@ -42,7 +42,6 @@ use Rattle.scheduler.specs.Effects.{
   join,
   newThread,
   wokenThread,
-  left,
   usedUp,
   renewed,
   allotmentAfter,
@@ -91,7 +90,7 @@ unfolding sound shapeOk settingsOk groupsOk groupOk threadOk listOk runningOk lo
 soundness = tt
 
 unfoldable pub charges : Unit {0}
-unfolding left usedUp renewed allotmentAfter chargedThread charged exited reported
+unfolding leftOf isUsedUp afterReport usedUp renewed allotmentAfter chargedThread charged exited reported
 charges = tt
 
 unfoldable pub effects : Unit {0}

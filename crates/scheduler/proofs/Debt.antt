@@ -46,11 +46,7 @@ module _ (used : ℕ) (t : Thread) where
       → natOf (allotmentAfter s reason used t) ≡ natOf (t .allotment) + quantum s (t .reservation) - used
   debt-after s reason h e = rw e at (after-nat s reason h)
 
-  -- something left: a yield fills it
-  pub filled-after : (s : Scheduler) → usedUp used t ≡ false → natOf (allotmentAfter s 2 used t) ≡ quantum s (t .reservation)
-  filled-after s e = rw e at (after-nat s 2 (omega (arith, used-less e)))
-
-  -- and another report leaves it
+  -- not renewed: what is left
   pub kept-after : (s : Scheduler) (reason : ℕ) → renewed reason used t ≡ false
       → natOf (allotmentAfter s reason used t) + used ≡ natOf (t .allotment)
   unfolding renewed
@@ -59,8 +55,3 @@ module _ (used : ℕ) (t : Thread) where
       let low = used-less u in
       let q = rw (u, or-false-l (eqb reason 2) (usedUp used t) e) at (after-nat s reason (omega (arith, low))) in
       omega (arith, q, low)
-
--- a thread that is not renewed has something left
-pub not-used-up : (reason used : ℕ) (t : Thread) → renewed reason used t ≡ false → used < natOf (t .allotment)
-unfolding renewed
-not-used-up reason used t e = used-less used t (or-false-r (eqb reason 2) (usedUp used t) e)
