@@ -3,6 +3,8 @@
 
 use mtr::{Dispatch, Event, Scheduler};
 
+pub use mtr::Settings;
+
 use crate::codec::{answer, Record, NONE};
 
 /// Answers records and keeps the accounts. A fresh one has the default
@@ -24,8 +26,8 @@ pub trait Engine: Default {
     /// Reservation in thousandths and group, of an admitted thread.
     fn place(&self, thread: u8) -> Option<(u64, u8)>;
 
-    /// m and P.
-    fn settings(&self) -> (u64, u64);
+    /// m, P and O.
+    fn settings(&self) -> Settings;
 
     /// The running thread.
     fn running(&self) -> Option<u8>;
@@ -51,9 +53,11 @@ impl Reply {
     }
 }
 
-/// The most that the share guarantee lets the lag of a thread be:
-/// 2f(1000 − f)m + fP.
-pub fn bound(reservation: u64, (m, p): (u64, u64)) -> i64 {
+/// The most that the share guarantee lets the lag of a thread be while no other
+/// thread overruns its slice: 2f(1000 − f)m + fP. Each tick of another's overrun
+/// since the lag is counted adds f.
+pub fn bound(reservation: u64, settings: Settings) -> i64 {
+    let (m, p) = (u64::from(settings.thousandth), u64::from(settings.interval));
     let f = reservation;
     (2 * f * (1000 - f) * m + f * p) as i64
 }
@@ -112,9 +116,8 @@ impl Engine for Proved {
         admitted.then_some((entry.reservation.into(), entry.group))
     }
 
-    fn settings(&self) -> (u64, u64) {
-        let settings = self.state.settings();
-        (settings.thousandth.into(), settings.interval.into())
+    fn settings(&self) -> Settings {
+        self.state.settings()
     }
 
     fn running(&self) -> Option<u8> {

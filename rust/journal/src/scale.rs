@@ -1,5 +1,7 @@
 //! Units, round steps and numbers of axes and tables.
 
+use crate::engine::Settings;
+
 /// A unit of time and its length in ticks.
 #[derive(Clone, Copy, Debug, PartialEq)]
 pub struct Unit {
@@ -94,6 +96,17 @@ pub fn count(value: u64) -> String {
 pub fn counted(value: u64, noun: &str) -> String {
     let s = if value == 1 { "" } else { "s" };
     format!("{} {noun}{s}", count(value))
+}
+
+/// m and P, and O unless it is 0, each number in a form.
+pub fn settings(settings: &Settings, form: fn(u64) -> String) -> String {
+    let (m, p) = (settings.thousandth.into(), settings.interval.into());
+    let mut text = format!("m {}, P {}", form(m), form(p));
+    if settings.overrun > 0 {
+        text.push_str(", O ");
+        text.push_str(&form(settings.overrun.into()));
+    }
+    text
 }
 
 /// Ticks in the unit that suits them, with three digits or so.

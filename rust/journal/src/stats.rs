@@ -1,6 +1,7 @@
 //! A journal in figures: per thread its share, runs, wakes, longest run and
-//! wait and largest lag beside the bound of the share guarantee; refusals by
-//! number. As text to read, and as comma-separated values.
+//! wait and largest lag beside the bound of the share guarantee, and its runs
+//! beyond their slices; refusals by number. As text to read, and as
+//! comma-separated values.
 
 use std::fmt::Write;
 
@@ -8,7 +9,7 @@ use crate::engine::Engine;
 use crate::names::Names;
 use crate::playback::Journal;
 use crate::progress::Progress;
-use crate::scale::{count, counted, exact};
+use crate::scale::{count, counted, exact, settings};
 use crate::text::Tally;
 use crate::track::{End, Survey, Thread, View, What};
 use crate::words;
@@ -101,6 +102,17 @@ const MOST: [Column; 9] = [
     }),
 ];
 
+/// Runs beyond their slices.
+const BEYOND: [Column; 5] = [
+    ("thread", true, |n, _, names| names.label(n)),
+    ("overruns", false, |_, t, _| t.overruns.to_string()),
+    ("together", false, |_, t, _| ms(t.overrun)),
+    ("longest", false, |_, t, _| ms(t.longest_overrun.ticks)),
+    ("at record", false, |_, t, _| {
+        record(t.longest_overrun.ticks, t.longest_overrun.record)
+    }),
+];
+
 fn record(ticks: u64, number: u64) -> String {
     match ticks {
         0 => "-".into(),
@@ -114,6 +126,11 @@ thousandths. The share is that of a thread's last life, from admission to its
 end. Runs are dispatches; a longest run may be several in a row. Refused are
 records that name the thread, or reports of its runs. A lag is owed time; the
 bound is what the share guarantee lets it be at most.
+";
+
+const LATE: &str = "\
+An overrun is what a run used beyond its slice. The bound has room for what the
+other threads overran since the lag is counted.
 ";
 
 impl Figures {
@@ -131,11 +148,16 @@ impl Figures {
         if threads.is_empty() {
             out.push_str("\nNo thread was admitted.\n");
         } else {
-            for columns in [&HAS, &MOST] {
+            let late = s.overruns() > 0;
+            let tables: [&[Column]; 3] = [&HAS, &MOST, &BEYOND];
+            for columns in &tables[..if late { 3 } else { 2 }] {
                 out.push('\n');
                 self.table(columns, &threads, names, &mut out);
             }
             let _ = write!(out, "\n{LEGEND}");
+            if late {
+                out.push_str(LATE);
+            }
         }
         self.groups(&mut out);
         self.refusals(&mut out);
@@ -160,7 +182,7 @@ impl Figures {
         facts.push(format!("{}{blocks}", counted(s.records, "record")));
         facts.push(format!("{} ms of processor time", ms(s.time())));
         facts.push(match s.one_setting {
-            true => format!("m {}, P {}", s.settings.0, s.settings.1),
+            true => settings(&s.settings, |n| n.to_string()),
             false => "settings change".into(),
         });
         facts.push(counted(s.starts, "start"));
@@ -168,11 +190,13 @@ impl Figures {
         facts.join(", ")
     }
 
-    fn table(&self, columns: &[Column; 9], threads: &[u8], names: &Names, out: &mut String) {
-        let mut rows = vec![columns.map(|(heading, _, _)| heading.to_string())];
+    fn table(&self, columns: &[Column], threads: &[u8], names: &Names, out: &mut String) {
+        let headings = columns.iter().map(|(heading, _, _)| heading.to_string());
+        let mut rows: Vec<Vec<String>> = vec![headings.collect()];
         for &n in threads {
             let t = &self.survey.threads[n as usize];
-            rows.push(columns.map(|(_, _, value)| value(n, t, names)));
+            let values = columns.iter().map(|(_, _, value)| value(n, t, names));
+            rows.push(values.collect());
         }
         let width = |c: usize| rows.iter().map(|row| row[c].chars().count()).max();
         let widths: Vec<usize> = (0..columns.len()).map(|c| width(c).unwrap_or(0)).collect();
@@ -252,7 +276,8 @@ impl Figures {
              longest_run,longest_run_at,longest_run_record,\
              longest_wait,longest_wait_at,longest_wait_record,\
              longest_block,longest_block_at,longest_block_record,\
-             largest_lag,largest_lag_at,largest_lag_record,bound,at_the_end\n",
+             largest_lag,largest_lag_at,largest_lag_record,bound,at_the_end,\
+             overruns,overrun,longest_overrun,longest_overrun_at,longest_overrun_record\n",
         );
         for n in self.survey.admitted() {
             let t = &self.survey.threads[n as usize];
@@ -266,7 +291,7 @@ impl Figures {
                 let _ = write!(out, ",{},{},{}", longest.ticks, longest.at, longest.record);
             }
             let g = t.largest;
-            let _ = writeln!(
+            let _ = write!(
                 out,
                 ",{},{},{},{},{}",
                 g.lag,
@@ -274,6 +299,12 @@ impl Figures {
                 g.record,
                 g.bound,
                 became(t.end)
+            );
+            let o = t.longest_overrun;
+            let _ = writeln!(
+                out,
+                ",{},{},{},{},{}",
+                t.overruns, t.overrun, o.ticks, o.at, o.record
             );
         }
         out

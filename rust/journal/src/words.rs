@@ -1,10 +1,17 @@
 //! Words for answers.
 
-use crate::codec::{answer, kind};
+use crate::codec::{answer, kind, Record};
+use crate::engine::Settings;
 
-/// Why a record of a kind was refused.
-pub fn refusal(kind: u8, number: u32) -> &'static str {
-    match (number, kind) {
+/// Why a record was refused under the settings in force. Overruns are spoken of
+/// where the record or the settings allow some.
+pub fn refusal(record: &Record, number: u32, settings: Settings) -> &'static str {
+    let late = match record.kind {
+        kind::START => record.overrun > 0,
+        _ => settings.overrun > 0,
+    };
+    match (number, record.kind) {
+        (answer::SETTINGS, _) if late => "m, P or O outside its range",
         (answer::SETTINGS, _) => "m or P outside its range",
         (answer::GROUP, kind::OPEN) => "the parent is above 15 or not open",
         (answer::GROUP, kind::CLOSE) => "the group is 0, above 15 or not open",
@@ -24,6 +31,7 @@ pub fn refusal(kind: u8, number: u32) -> &'static str {
         (answer::NOT_BLOCKED, _) => "it is not blocked",
         (answer::NOTHING_RUNS, _) => "nothing is running",
         (answer::A_THREAD_RUNS, _) => "a thread is running",
+        (answer::USED, _) if late => "more used than the slice and O",
         (answer::USED, _) => "more used than the slice",
         (answer::REASON, _) => "reason above 3",
         (answer::METER, _) => "the meter is at its limit",

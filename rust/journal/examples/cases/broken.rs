@@ -6,7 +6,7 @@
 //! made full.
 
 use journal::codec::{answer, kind, Record};
-use journal::engine::{Engine, Reply};
+use journal::engine::{Engine, Reply, Settings};
 use model::rule::{self, Scheduler};
 use model::{blocks, calls};
 
@@ -27,6 +27,7 @@ impl Engine for RefillOnWake {
             group: r.group,
             reason: r.reason,
             amount: r.amount,
+            overrun: r.overrun,
             ticks: r.ticks,
         };
         let reply = calls::run(&mut self.state, &record);
@@ -34,7 +35,7 @@ impl Engine for RefillOnWake {
             // The fault.
             let m = self.state.settings.thousandth;
             let t = &mut self.state.threads[r.subject as usize];
-            t.allotment = u32::from(t.reservation) * m;
+            t.allotment = i32::from(t.reservation) * i32::from(m);
         }
         Reply {
             answer: reply.answer,
@@ -58,9 +59,13 @@ impl Engine for RefillOnWake {
         admitted.then_some((entry.reservation.into(), entry.group))
     }
 
-    fn settings(&self) -> (u64, u64) {
+    fn settings(&self) -> Settings {
         let s = &self.state.settings;
-        (s.thousandth.into(), s.interval.into())
+        Settings {
+            thousandth: s.thousandth,
+            interval: s.interval,
+            overrun: s.overrun,
+        }
     }
 
     fn running(&self) -> Option<u8> {

@@ -1,10 +1,11 @@
 //! A virtual controller that makes the calls of a case.
 //!
 //! Its clock is the meter: readout wants the core at all times, so there is no
-//! idle time. It interrupts the running thread at every wake.
+//! idle time. It interrupts the running thread at every wake, and by its timer at
+//! the end of the slice or some ticks later.
 
 use journal::codec::{self, answer, kind, reason, Record, NONE, RECORDS};
-use journal::engine::Engine;
+use journal::engine::{Engine, Settings};
 use model::random::Rng;
 
 /// Ticks that a shipped case lasts.
@@ -30,15 +31,23 @@ pub enum Server {
     Jittery,
 }
 
-/// What a case came to.
+/// The settings and what the threads, numbered from 0, reserve and do.
+pub struct Load<'a> {
+    pub settings: Settings,
+    pub reservations: &'a [u64],
+    /// Ticks of work between two waits.
+    pub bursts: &'a [u64],
+}
+
+/// What a case came to, thread by thread.
 #[derive(Clone, Debug, PartialEq, Eq)]
 pub struct Outcome {
     pub records: Vec<Record>,
     /// Achieved shares at the end.
-    pub shares: [u64; THREADS],
+    pub shares: Vec<u64>,
     /// Largest lag after any report.
-    pub largest: [i64; THREADS],
-    pub wakes: [u64; THREADS],
+    pub largest: Vec<i64>,
+    pub wakes: Vec<u64>,
 }
 
 impl Outcome {
@@ -62,15 +71,15 @@ struct Controller<E> {
 }
 
 impl<E: Engine> Controller<E> {
-    fn new() -> Controller<E> {
+    fn new(threads: usize) -> Controller<E> {
         Controller {
             engine: E::default(),
             meter: 0,
             outcome: Outcome {
                 records: Vec::new(),
-                shares: [0; THREADS],
-                largest: [0; THREADS],
-                wakes: [0; THREADS],
+                shares: vec![0; threads],
+                largest: vec![0; threads],
+                wakes: vec![0; threads],
             },
         }
     }
@@ -104,15 +113,15 @@ impl<E: Engine> Controller<E> {
         }
     }
 
-    fn begin(&mut self) {
-        let (m, p) = self.engine.settings();
+    fn begin(&mut self, load: &Load) {
         self.call(Record {
             kind: kind::START,
-            amount: m as u16,
-            ticks: p as u32,
+            amount: load.settings.thousandth,
+            ticks: load.settings.interval,
+            overrun: load.settings.overrun,
             ..Record::default()
         });
-        for (n, f) in (0u8..).zip(RESERVATIONS) {
+        for (n, &f) in (0u8..).zip(load.reservations) {
             self.call(Record {
                 kind: kind::ADMIT,
                 subject: n,
@@ -123,14 +132,35 @@ impl<E: Engine> Controller<E> {
     }
 }
 
-/// Runs a case until the meter reaches a length.
+/// Runs a case with the default settings until the meter reaches a length.
 pub fn play<E: Engine>(server: Server, length: u64) -> Outcome {
-    let mut c = Controller::<E>::new();
-    c.begin();
     let mut jitter = Rng::new(1997);
-    let mut left = BURSTS;
+    let load = Load {
+        settings: Settings::default(),
+        reservations: &RESERVATIONS,
+        bursts: &BURSTS,
+    };
+    let pause = |n| match (n, server) {
+        (EXPORTER, Server::Steady) => 0,
+        (EXPORTER, Server::Jittery) => jitter.range(REPLY.0, REPLY.1),
+        _ => PAUSES[n],
+    };
+    control::<E>(&load, length, pause, || 0)
+}
+
+/// Runs a load until the meter reaches a length. After its burst a thread waits
+/// for the ticks told; the timer is late by the ticks told.
+pub fn control<E: Engine>(
+    load: &Load,
+    length: u64,
+    mut pause: impl FnMut(usize) -> u64,
+    mut late: impl FnMut() -> u64,
+) -> Outcome {
+    let mut c = Controller::<E>::new(load.bursts.len());
+    c.begin(load);
+    let mut left = load.bursts.to_vec();
     // When a blocked thread is to be woken.
-    let mut due: [Option<u64>; THREADS] = [None; THREADS];
+    let mut due: Vec<Option<u64>> = vec![None; left.len()];
     while c.meter < length {
         let (thread, slice) = c.plain(kind::DISPATCH, 0);
         assert!(thread != NONE);
@@ -140,22 +170,18 @@ pub fn play<E: Engine>(server: Server, length: u64) -> Outcome {
             .flatten()
             .min()
             .map_or(u64::MAX, |at| at - c.meter);
-        let used = left[n].min(slice).min(until);
+        let used = left[n].min(slice + late()).min(until);
         if left[n] != u64::MAX {
             left[n] -= used;
         }
-        let mut pause = 0;
+        let mut waits = 0;
         if left[n] == 0 {
-            left[n] = BURSTS[n];
-            pause = match (n, server) {
-                (EXPORTER, Server::Steady) => 0,
-                (EXPORTER, Server::Jittery) => jitter.range(REPLY.0, REPLY.1),
-                _ => PAUSES[n],
-            };
+            left[n] = load.bursts[n];
+            waits = pause(n);
         }
-        if pause > 0 {
+        if waits > 0 {
             c.report(reason::BLOCK, used);
-            due[n] = Some(c.meter + pause);
+            due[n] = Some(c.meter + waits);
         } else {
             c.report(reason::TICK, used);
         }

@@ -14,6 +14,7 @@ use journal::track::{Mark, View};
 
 use crate::broken::RefillOnWake;
 use crate::controller::{play, Server, EXPORTER, LENGTH, NAMES, RESERVATIONS};
+use crate::late;
 
 /// A shipped journal.
 #[derive(Clone, Copy, Debug)]
@@ -36,6 +37,9 @@ pub const CASES: [Case; 2] = [
         server: Server::Jittery,
     },
 ];
+
+/// Name and title of the journal with a timer that fires late.
+pub const LATE: (&str, &str) = ("late", "A timer that fires up to 90 \u{b5}s late");
 
 /// Title of the picture of the broken rule.
 pub const BROKEN: &str = "The same exporter by a broken rule: every wake fills the allotment";
@@ -83,17 +87,48 @@ pub fn broken_picture() -> String {
 }
 
 fn names() -> String {
-    let mut out = String::from("# Threads of the shipped journals steady and exporter.\n");
+    let mut out = String::from("# Threads of the shipped journals steady, exporter and late.\n");
     for (n, name) in NAMES.iter().enumerate() {
         let _ = writeln!(out, "{n} {name}");
     }
     out
 }
 
+fn here() -> &'static Path {
+    Path::new(env!("CARGO_MANIFEST_DIR"))
+}
+
+/// A journal by the rule with its text, which begins with its threads, and its
+/// picture of a width.
+fn shipped(
+    (name, title): (&str, &str),
+    reservations: &[u64],
+    journal: &[u8],
+    width: u32,
+) -> [(PathBuf, Vec<u8>); 3] {
+    let root = here().join("../..");
+    let mut lines = Vec::new();
+    // Writing to a vector does not fail.
+    let _ = writeln!(&mut lines, "# {title}.");
+    for (n, (name, f)) in NAMES.iter().zip(reservations).enumerate() {
+        let _ = writeln!(&mut lines, "# thread {n}: {name}, reservation {f}");
+    }
+    let whole = Journal::whole(journal);
+    let _ = text::decode(whole, &mut lines, &mut Progress::silent());
+    let svg = picture::<Proved>(journal, title, View::default(), width);
+    [
+        (here().join(format!("examples/{name}.txt")), lines),
+        (root.join(format!("docs/{name}.svg")), svg.into()),
+        (
+            root.join(format!("examples/journals/{name}.blocks")),
+            journal.to_vec(),
+        ),
+    ]
+}
+
 /// The files with their contents.
 pub fn files() -> Vec<(PathBuf, Vec<u8>)> {
-    let here = Path::new(env!("CARGO_MANIFEST_DIR"));
-    let root = here.join("../..");
+    let root = here().join("../..");
     let journals = root.join("examples/journals");
     let mut files = vec![
         (journals.join("names.txt"), names().into()),
@@ -104,28 +139,18 @@ pub fn files() -> Vec<(PathBuf, Vec<u8>)> {
     }
     for case in CASES {
         let journal = play::<Proved>(case.server, LENGTH).journal();
-        let mut lines = Vec::new();
-        let _ = writeln!(&mut lines, "# {}.", case.title);
-        for (n, name) in NAMES.iter().enumerate() {
-            let f = RESERVATIONS[n];
-            let _ = writeln!(&mut lines, "# thread {n}: {name}, reservation {f}");
-        }
-        // Writing to a vector does not fail.
-        let whole = Journal::whole(&journal);
-        let _ = text::decode(whole, &mut lines, &mut Progress::silent());
-
-        let name = case.name;
-        let svg = picture::<Proved>(&journal, case.title, View::default(), NARROW);
-        files.push((here.join(format!("examples/{name}.txt")), lines));
-        files.push((root.join(format!("docs/{name}.svg")), svg.into()));
+        let called = (case.name, case.title);
+        files.extend(shipped(called, &RESERVATIONS, &journal, NARROW));
         if case.server == Server::Jittery {
             let all = picture::<Proved>(&journal, case.title, View::default(), WIDTH);
             let part = picture::<Proved>(&journal, ZOOM, zoom(), WIDTH);
             files.push((root.join("docs/journal.svg"), all.into()));
             files.push((root.join("docs/zoom.svg"), part.into()));
         }
-        files.push((journals.join(format!("{name}.blocks")), journal));
     }
+    let latest = late::SETTINGS.overrun.into();
+    let journal = late::play::<Proved>(latest, late::LENGTH).journal();
+    files.extend(shipped(LATE, &late::RESERVATIONS, &journal, WIDTH));
     files
 }
 

@@ -1,5 +1,6 @@
 //! A controller whose exporter sends results to a server, by the rule and by a
-//! broken one. The page docs/CASES.md shows what comes of it.
+//! broken one, and one whose timer fires late. The page docs/CASES.md shows what
+//! comes of it.
 //!
 //! - Without an argument: the shares, as a table.
 //! - `--broken`: the picture of the broken rule, to standard output.
@@ -11,6 +12,7 @@ mod answer;
 mod broken;
 mod controller;
 mod files;
+mod late;
 mod table;
 
 use std::io::{self, Write};

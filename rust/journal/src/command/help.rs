@@ -73,7 +73,8 @@ Usage: journal encode [OPTION].. [FILE]
 
 Makes blocks of a text with one record a line:
 
-  start thousandth 100 interval 20000
+  start thousandth 100 interval 20000 overrun 5
+                         without its last two words the overrun limit is 0
   open 2 parent 0 ceiling 300
   close 2
   admit 5 group 0 reservation 500
@@ -83,9 +84,9 @@ Makes blocks of a text with one record a line:
   report tick 20000      also block, yield and exit, each with the ticks used;
   report reason 200 5    any other reason by its number
 
-Numbers are decimal: groups, threads and reasons 0 to 255, thousandth, ceiling
-and reservation 0 to 65535, interval and ticks 0 to 4294967295. A record that
-the scheduler refuses is a record all the same.
+Numbers are decimal: groups, threads and reasons 0 to 255, thousandth, overrun,
+ceiling and reservation 0 to 65535, interval and ticks 0 to 4294967295. A record
+that the scheduler refuses is a record all the same.
 
   block 3                from here on records go into block 3, up to 31 of them;
                          the number may be left out
@@ -130,8 +131,8 @@ Usage: journal run [OPTION].. [FILE]
 
 As 'journal decode', with a comment at each record: the five numbers that mtrrun
 prints for it (record number, answer, thread, slice, threads before it), and in
-words why it was refused. The answers are computed anew by the proved library;
-a journal does not hold them.
+words why it was refused or how many ticks a report used beyond its slice. The
+answers are computed anew by the proved library; a journal does not hold them.
 
 Options:
 {FIRST}{OUTPUT}"
@@ -145,14 +146,15 @@ Usage: journal draw [OPTION].. [FILE]
 
 Makes an SVG picture of a journal: who had the core when, a lane a thread, with
 blocked spans, wakes and refusals; below it the lag of each thread with the most
-that the share guarantee lets it be, and the refusals in words. Where groups were
-opened, the lanes stand group by group with the ceilings. Time is the meter, which
-moves when a report is accepted. From a damaged or missing block to the next
-accepted start nothing is run; the picture shows that as a hatched gap. A journal
-with many records is thinned out: each pixel column shows what part of its time a
-thread had the core or was blocked, and the least and the greatest lag in it. With
---from and --to a part of it is drawn span by span. All is computed anew from the
-journal's calls by the proved library.
+that the share guarantee lets it be, and the refusals in words. What a run used
+beyond its slice is marked, and while others wait the most of their lags grows by
+it. Where groups were opened, the lanes stand group by group with the ceilings.
+Time is the meter, which moves when a report is accepted. From a damaged or
+missing block to the next accepted start nothing is run; the picture shows that as
+a hatched gap. A journal with many records is thinned out: each pixel column shows
+what part of its time a thread had the core or was blocked, and the least and the
+greatest lag in it. With --from and --to a part of it is drawn span by span. All
+is computed anew from the journal's calls by the proved library.
 
 Options:
   --title TEXT        the picture's title; else the name of FILE
@@ -167,9 +169,10 @@ pub fn stats() -> String {
 Usage: journal stats [OPTION].. [FILE]
 
 Tells of each thread its share, runs and wakes, its longest run and wait and its
-largest lag with the records that they begin with, and the most that the share
-guarantee lets the lag be; then the refusals by number, in words. All is computed
-anew from the journal's calls by the proved library.
+largest lag with the records that they begin with, the most that the share
+guarantee lets the lag be there, and what its runs used beyond their slices; then
+the refusals by number, in words. All is computed anew from the journal's calls by
+the proved library.
 
 Options:
   --csv               comma-separated values, a thread a line; times in ticks of

@@ -5,8 +5,7 @@ use std::fmt::Write;
 use crate::codec::THREADS;
 use crate::names::Names;
 use crate::scale::exact;
-use crate::track::{At, Life, Refused, Sink, Span, What};
-use crate::words;
+use crate::track::{At, Life, Limit, Overrun, Refused, Sink, Span, What};
 
 use super::layout::{Lane, Layout, Panel};
 use super::svg::{escape, C};
@@ -18,13 +17,16 @@ const NARROW: f64 = 0.8;
 #[derive(Clone, Debug, Default)]
 pub struct Shapes {
     pub runs: String,
+    /// Of the runs, what lies beyond their slices.
+    pub late: String,
     pub waits: String,
     pub blocked: String,
     pub wakes: String,
     pub lag: String,
     pub bound: String,
-    /// End of the lag's line so far.
+    /// Ends of the lag's line and of the bound's so far.
     last: Option<(At, i64)>,
+    last_bound: Option<(At, i64)>,
 }
 
 /// Refusals at the same pixel.
@@ -73,30 +75,26 @@ impl<'a> Exact<'a> {
     }
 
     fn run(&mut self, lane: Lane, x0: f64, x1: f64, title: impl FnOnce() -> String) {
+        let title = self.titles.then(title);
         let runs = &mut self.shapes[lane.thread as usize].runs;
-        let w = (x1 - x0).max(NARROW);
-        if self.titles {
-            let _ = writeln!(
-                runs,
-                "<rect class=\"run\" x=\"{}\" y=\"{}\" width=\"{}\" height=\"{}\"><title>{}</title></rect>",
-                C(x0),
-                C(lane.top),
-                C(w),
-                C(lane.bar),
-                escape(&title())
-            );
-        } else {
-            let _ = write!(
-                runs,
-                "M{} {}h{}v{}h{}z",
-                C(x0),
-                C(lane.top),
-                C(w),
-                C(lane.bar),
-                C(-w)
-            );
-        }
+        bar(runs, "run", lane, (x0, x1), title);
     }
+}
+
+/// A stretch of a lane's bar: an element of its own if it has a title, else a
+/// part of a path.
+fn bar(out: &mut String, class: &str, lane: Lane, (x0, x1): (f64, f64), title: Option<String>) {
+    let w = (x1 - x0).max(NARROW);
+    let (x, y, h) = (C(x0), C(lane.top), C(lane.bar));
+    let _ = match title {
+        Some(title) => writeln!(
+            out,
+            "<rect class=\"{class}\" x=\"{x}\" y=\"{y}\" width=\"{}\" height=\"{h}\"><title>{}</title></rect>",
+            C(w),
+            escape(&title)
+        ),
+        None => write!(out, "M{x} {y}h{}v{h}h{}z", C(w), C(-w)),
+    };
 }
 
 impl Sink for Exact<'_> {
@@ -159,22 +157,46 @@ impl Sink for Exact<'_> {
         });
     }
 
-    fn life(&mut self, life: &Life) {
-        let n = life.thread as usize;
-        // A new life does not go on with the line of the last.
-        self.shapes[n].last = None;
+    fn overrun(&mut self, o: &Overrun) {
+        let n = o.thread as usize;
+        let Some(lane) = self.lanes[n] else { return };
+        let x = (self.layout.x(o.from), self.layout.x(o.end()));
+        let title = self.titles.then(|| {
+            format!(
+                "{} runs {} beyond its slice, up to record {}",
+                self.names.told(o.thread),
+                exact(o.length()),
+                o.record
+            )
+        });
+        bar(&mut self.shapes[n].late, "late", lane, x, title);
+    }
+
+    fn limit(&mut self, limit: &Limit) {
+        let n = limit.thread as usize;
         let Some(panel) = self.panels[n] else { return };
-        let to = At {
-            time: life.to,
-            ..life.from
+        let (x0, x1) = (self.layout.x(limit.from), self.layout.x(limit.end()));
+        let (bound, last) = (limit.bound, limit.last_bound());
+        let (y0, y1) = (panel.y(bound as f64), panel.y(last as f64));
+        let shapes = &mut self.shapes[n];
+        // What a part touches at its edge alone is no part of the line.
+        let empty = limit.from == limit.end();
+        let _ = match shapes.last_bound.filter(|_| !empty) {
+            Some(end) if end == (limit.from, bound) => Ok(()),
+            Some((at, _)) if at == limit.from => write!(shapes.bound, "V{}", C(y0)),
+            _ => write!(shapes.bound, "M{} {}", C(x0), C(y0)),
         };
-        let _ = write!(
-            self.shapes[n].bound,
-            "M{} {}H{}",
-            C(self.layout.x(life.from)),
-            C(panel.y(life.bound as f64)),
-            C(self.layout.x(to))
-        );
+        let _ = match limit.slope {
+            0 => write!(shapes.bound, "H{}", C(x1)),
+            _ => write!(shapes.bound, "L{} {}", C(x1), C(y1)),
+        };
+        shapes.last_bound = (!empty).then_some((limit.end(), last));
+    }
+
+    fn life(&mut self, life: &Life) {
+        // A new life does not go on with the lines of the last.
+        let shapes = &mut self.shapes[life.thread as usize];
+        (shapes.last, shapes.last_bound) = (None, None);
     }
 
     fn wake(&mut self, thread: u8, at: At, _: u64) {
@@ -192,12 +214,7 @@ impl Sink for Exact<'_> {
 
     fn refusal(&mut self, r: &Refused) {
         let x = self.layout.x(r.at);
-        let mut title = format!(
-            "record {} refused: {}, {}",
-            r.number,
-            r.answer,
-            words::refusal(r.record.kind, r.answer)
-        );
+        let mut title = format!("record {} refused: {}, {}", r.number, r.answer, r.words);
         if let Some(thread) = r.thread {
             let _ = write!(title, " ({})", self.names.told(thread));
         }

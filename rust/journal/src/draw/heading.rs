@@ -1,7 +1,7 @@
 //! The picture's head: style, title, what the journal holds, what the shapes
 //! mean.
 
-use crate::scale::{count, counted, duration, exact};
+use crate::scale::{count, counted, duration, exact, settings};
 use crate::track::Survey;
 
 use super::picture::{cross, Picture};
@@ -39,10 +39,14 @@ text{font-family:'Helvetica Neue',Helvetica,Arial,'Liberation Sans','DejaVu Sans
 .bound{stroke:#d55e00;stroke-width:1.5;stroke-dasharray:6 4;fill:none}
 ";
 
+/// Beside it where runs went beyond their slices.
+const LATE: &str = ".late{fill:#12263a}\n";
+
 /// What the shapes mean.
 #[derive(Clone, Copy, Debug, PartialEq, Eq)]
 enum Sign {
     Run,
+    Late,
     Blocked,
     Wait,
     Wake,
@@ -66,6 +70,7 @@ impl Sign {
     fn words(self, s: &Survey, thin: bool, times: u32) -> String {
         match (self, thin) {
             (Sign::Run, _) => "has the core".into(),
+            (Sign::Late, _) => "beyond its slice".into(),
             (Sign::Blocked, _) => "blocked".into(),
             (Sign::Wait, _) => "runnable, waits".into(),
             (Sign::Wake, false) => "wake".into(),
@@ -154,7 +159,7 @@ fn facts(s: &Survey, part: bool) -> Vec<String> {
         facts.push(format!("{} of processor time", duration(s.time() as f64)));
     }
     facts.push(match s.one_setting {
-        true => format!("m {}, P {}", count(s.settings.0), count(s.settings.1)),
+        true => settings(&s.settings, count),
         false => "settings change".to_string(),
     });
     if s.starts > 1 {
@@ -164,6 +169,9 @@ fn facts(s: &Survey, part: bool) -> Vec<String> {
         0 => {}
         1 => facts.push("1 idle dispatch".into()),
         n => facts.push(format!("{} idle dispatches", count(n))),
+    }
+    if s.overruns() > 0 {
+        facts.push(counted(s.overruns(), "overrun"));
     }
     if s.refused() > 0 {
         facts.push(counted(s.refused(), "refusal"));
@@ -181,7 +189,11 @@ fn facts(s: &Survey, part: bool) -> Vec<String> {
 fn signs(s: &Survey, thin: bool) -> Vec<Sign> {
     let mut signs = Vec::new();
     if s.admitted().next().is_some() {
-        signs.extend([Sign::Run, Sign::Blocked, Sign::Wait]);
+        signs.push(Sign::Run);
+        if s.overruns() > 0 {
+            signs.push(Sign::Late);
+        }
+        signs.extend([Sign::Blocked, Sign::Wait]);
     }
     if s.threads.iter().any(|t| t.wakes > 0) {
         signs.push(Sign::Wake);
@@ -214,7 +226,8 @@ impl Picture<'_> {
             .put(format_args!("<title>{}</title>", escape(title)));
         self.svg
             .put(format_args!("<desc>{}</desc>", escape(&facts)));
-        self.svg.put(format_args!("<style>\n{STYLE}</style>"));
+        let late = if self.survey.overruns() > 0 { LATE } else { "" };
+        self.svg.put(format_args!("<style>\n{STYLE}{late}</style>"));
         self.svg.put(format_args!(
             "<defs><pattern id=\"damage\" width=\"7\" height=\"7\" patternUnits=\"userSpaceOnUse\" patternTransform=\"rotate(45)\"><rect width=\"7\" height=\"7\" fill=\"#fbf1f7\"/><path class=\"damage\" d=\"M1 0V7\"/></pattern></defs>"
         ));
@@ -238,6 +251,10 @@ impl Picture<'_> {
             let svg = &mut self.svg;
             match sign {
                 Sign::Run => svg.rect("run", x, y - 10.0, 18.0, 12.0),
+                Sign::Late => {
+                    svg.rect("run", x, y - 10.0, 12.0, 12.0);
+                    svg.rect("late", x + 12.0, y - 10.0, 6.0, 12.0);
+                }
                 Sign::Blocked => svg.rect("blocked", x, y - 8.0, 18.0, 8.0),
                 Sign::Wait if thin => svg.rect("here", x, y - 10.0, 18.0, 12.0),
                 Sign::Wait => svg.path("wait", &format!("M{} {}h18", C(x), C(y - 4.0))),

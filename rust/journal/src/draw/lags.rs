@@ -61,7 +61,13 @@ impl Picture<'_> {
             true => "; scale below 0 narrowed",
             false => "",
         };
-        let formula = "most by the share guarantee, (2f(1000 \u{2212} f)m + fP) / 1000";
+        let (overruns, meaning) = match self.survey.grown {
+            true => (" + fV", ", V others' overruns"),
+            false => ("", ""),
+        };
+        let formula = format!(
+            "most by the share guarantee, (2f(1000 \u{2212} f)m + fP{overruns}) / 1000{meaning}"
+        );
         let room = l.right - x - 32.0;
         let text = [
             format!("{formula}{squeezed}"),

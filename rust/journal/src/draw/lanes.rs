@@ -2,7 +2,7 @@
 
 use std::fmt::Write;
 
-use crate::scale::{count, counted};
+use crate::scale::{count, counted, exact};
 use crate::track::{End, Gap};
 use crate::words;
 
@@ -22,10 +22,11 @@ impl Picture<'_> {
             let shapes = &exact.shapes[lane.thread as usize];
             self.svg.path("wait", &shapes.waits);
             self.svg.path("blocked", &shapes.blocked);
-            if titles {
-                self.svg.out.push_str(&shapes.runs);
-            } else {
-                self.svg.path("run", &shapes.runs);
+            for (class, runs) in [("run", &shapes.runs), ("late", &shapes.late)] {
+                match titles {
+                    true => self.svg.out.push_str(runs),
+                    false => self.svg.path(class, runs),
+                }
             }
             self.svg.path("wake", &shapes.wakes);
             self.still_running(lane);
@@ -90,6 +91,7 @@ impl Picture<'_> {
                 ("here", &columns.here, bottom, lane.bar, 1),
                 ("blocked", &columns.blocked, top, -lane.bar, 1),
                 ("run", &columns.run, bottom, lane.bar, times),
+                ("late", &columns.late, bottom, lane.bar, times),
             ] {
                 let parts = values.iter().map(|&part| part as f64 * times as f64);
                 self.svg
@@ -205,13 +207,17 @@ impl Picture<'_> {
         let y = lane.top + lane.bar / 2.0 + 4.0;
         let name = fit(&names.label(lane.thread), 12.0, l.room(lane.label));
         let told = names.told(lane.thread);
-        let title = format!(
+        let mut title = format!(
             "{told}: reservation {} \u{2030} in group {}, {}, {}",
             t.reservation,
             t.group,
             counted(t.runs, "dispatch").replace("dispatchs", "dispatches"),
             counted(t.wakes, "wake")
         );
+        if t.overruns > 0 {
+            let overruns = counted(t.overruns, "overrun");
+            let _ = write!(title, ", {overruns} of {}", exact(t.overrun));
+        }
         self.svg.titled(lane.label, y, "name", &name, &title);
         let reserved = format!("{} \u{2030}", t.reservation);
         let x = l.left - 10.0;

@@ -52,11 +52,12 @@ impl Default for Options {
     }
 }
 
-/// Drawn span by span, in the usual width, up to so many spans or wakes a
-/// thread, refusals, starts or gaps, and up to so many spans in all.
+/// Drawn span by span, in the usual width, up to so many spans, wakes or
+/// overruns a thread, refusals, starts or gaps, and up to so many spans in all.
+/// An overrun counts as a span of each thread, whose bounds it moves.
 const FEW: u64 = 400;
 const FEW_IN_ALL: u64 = 4000;
-/// Up to so many spans in all each says what it is when pointed at.
+/// Up to so many spans and overruns in all each says what it is when pointed at.
 const FEW_TITLES: u64 = 400;
 /// A wake has a triangle where the thread's have so many pixels each.
 const WAKE: u64 = 10;
@@ -110,14 +111,16 @@ impl Detail {
     fn of(s: &Survey, width: u32) -> Detail {
         let most = |count: fn(&Thread) -> u64| s.threads.iter().map(count).max();
         let spans: u64 = s.threads.iter().map(|t| t.spans).sum();
+        let moved = s.overruns() * s.admitted().count() as u64;
         let marks = s.refused().max(s.starts).max(s.gaps.len() as u64);
         let few = FEW * u64::from(width) / u64::from(WIDTH);
-        if most(|t| t.spans.max(t.wakes)) > Some(few) || spans > FEW_IN_ALL || marks > few {
+        let crowded = most(|t| t.spans.max(t.wakes).max(t.overruns)) > Some(few);
+        if crowded || spans + moved > FEW_IN_ALL || marks > few {
             return Detail::Thin;
         }
         Detail::Exact {
             roomy: most(|t| t.wakes) <= Some(u64::from(width) / WAKE),
-            titles: spans <= FEW_TITLES,
+            titles: spans + s.overruns() <= FEW_TITLES,
         }
     }
 }

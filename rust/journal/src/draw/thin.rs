@@ -5,7 +5,7 @@
 use std::fmt::Write;
 
 use crate::codec::THREADS;
-use crate::track::{At, Life, Refused, Sink, Span, What};
+use crate::track::{At, Life, Limit, Overrun, Refused, Sink, Span, What};
 
 use super::layout::{Layout, Panel};
 use super::svg::C;
@@ -14,24 +14,29 @@ use super::svg::C;
 #[derive(Clone, Debug)]
 pub struct Columns {
     pub run: Vec<f32>,
+    /// Of the runs, what lies beyond their slices.
+    pub late: Vec<f32>,
     pub blocked: Vec<f32>,
     pub here: Vec<f32>,
     pub wakes: Vec<u32>,
     /// Least and greatest lag, the first above the second where there is none.
     pub lags: Vec<(f64, f64)>,
-    /// Largest bound, 0 where there is none.
+    /// Largest bound, 0 where there is none, and whether it rises anywhere.
     pub bound: Vec<f64>,
+    rises: bool,
 }
 
 impl Columns {
     fn new(columns: usize) -> Columns {
         Columns {
             run: vec![0.0; columns],
+            late: vec![0.0; columns],
             blocked: vec![0.0; columns],
             here: vec![0.0; columns],
             wakes: vec![0; columns],
             lags: vec![(f64::INFINITY, f64::NEG_INFINITY); columns],
             bound: vec![0.0; columns],
+            rises: false,
         }
     }
 }
@@ -131,10 +136,28 @@ impl Sink for Thin<'_> {
         };
         let layout = self.layout;
         let (x0, x1) = (layout.x(life.from), layout.x(to));
-        let columns = self.columns(life.thread);
-        cover(layout, &mut columns.here, x0, x1);
-        for (c, _, _) in parts(layout, x0, x1) {
-            columns.bound[c] = columns.bound[c].max(life.bound as f64);
+        cover(layout, &mut self.columns(life.thread).here, x0, x1);
+    }
+
+    fn overrun(&mut self, o: &Overrun) {
+        let layout = self.layout;
+        let (x0, x1) = (layout.x(o.from), layout.x(o.end()));
+        cover(layout, &mut self.columns(o.thread).late, x0, x1);
+    }
+
+    fn limit(&mut self, limit: &Limit) {
+        let layout = self.layout;
+        let (x0, x1) = (layout.x(limit.from), layout.x(limit.end()));
+        let (bound, last) = (limit.bound as f64, limit.last_bound() as f64);
+        let columns = self.columns(limit.thread);
+        columns.rises |= limit.slope > 0;
+        for (c, _, to) in parts(layout, x0, x1) {
+            // It is largest where it ends.
+            let here = match to < x1 {
+                true => bound + (last - bound) * (to - x0) / (x1 - x0),
+                false => last,
+            };
+            columns.bound[c] = columns.bound[c].max(here);
         }
     }
 
@@ -204,7 +227,7 @@ pub fn lag_lines(columns: &Columns, panel: &Panel, left: f64) -> String {
     path
 }
 
-/// The bound over the columns.
+/// The bound over the columns. One that rises is a line with steps.
 pub fn bound_line(columns: &Columns, panel: &Panel, left: f64) -> String {
     let mut path = String::new();
     let mut level = 0.0;
@@ -212,13 +235,15 @@ pub fn bound_line(columns: &Columns, panel: &Panel, left: f64) -> String {
         if bound == level {
             continue;
         }
-        let x = C(left + c as f64);
+        let (x, y) = (C(left + c as f64), C(panel.y(bound)));
         if level > 0.0 {
             let _ = write!(path, "H{x}");
         }
-        if bound > 0.0 {
-            let _ = write!(path, "M{x} {}", C(panel.y(bound)));
-        }
+        let _ = match bound > 0.0 {
+            true if columns.rises && level > 0.0 => write!(path, "V{y}"),
+            true => write!(path, "M{x} {y}"),
+            false => Ok(()),
+        };
         level = bound;
     }
     if level > 0.0 {

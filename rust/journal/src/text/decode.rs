@@ -113,20 +113,30 @@ pub fn decode(
 const ANSWERS: usize = 42;
 
 /// Writes a journal as text with a comment at each record: the five numbers
-/// that `mtrrun` prints for it, and in words why it was refused. Work ends with
-/// the first piece that can't be written.
+/// that `mtrrun` prints for it, and in words why it was refused or how far a
+/// report overran its slice. Work ends with the first piece that can't be
+/// written.
 pub fn run(journal: Journal, out: &mut impl Write, progress: &mut Progress) -> io::Result<Tally> {
     let mut text = Text::new(out, journal);
     let _ = writeln!(text.held, "# {}", Proved::SAYS);
     let mut written = Ok(());
-    play::<Proved>(journal, progress, |step, _| {
+    play::<Proved>(journal, progress, |step, engine| {
         match step {
             Step::Block { place } => text.block(place),
             Step::Record {
                 number,
                 record,
                 reply,
-            } => put_answered(&mut text.held, number, &record, &reply),
+                overrun,
+            } => {
+                let why = match (reply.answer, overrun) {
+                    (answer::ACCEPTED, 0) if reply.thread == NONE => "idle".into(),
+                    (answer::ACCEPTED, 0) => String::new(),
+                    (answer::ACCEPTED, ticks) => format!("{ticks} beyond the slice"),
+                    (refusal, _) => words::refusal(&record, refusal, engine.settings()).into(),
+                };
+                put_answered(&mut text.held, number, &record, &reply, &why);
+            }
             Step::Damaged {
                 place,
                 refusal,
@@ -146,8 +156,8 @@ pub fn run(journal: Journal, out: &mut impl Write, progress: &mut Progress) -> i
     text.finish()
 }
 
-/// Appends a record's line with what it was answered.
-fn put_answered(text: &mut Vec<u8>, number: u64, record: &Record, reply: &Reply) {
+/// Appends a record's line with what it was answered, and more in words.
+fn put_answered(text: &mut Vec<u8>, number: u64, record: &Record, reply: &Reply, why: &str) {
     let line = text.len();
     put_record(text, record);
     let pad = ANSWERS.saturating_sub(text.len() - line);
@@ -157,11 +167,6 @@ fn put_answered(text: &mut Vec<u8>, number: u64, record: &Record, reply: &Reply)
         " # {number} {} {} {} {}",
         reply.answer, reply.thread, reply.slice, reply.before
     );
-    let why = match reply.answer {
-        answer::ACCEPTED if reply.thread == NONE => "idle",
-        answer::ACCEPTED => "",
-        refusal => words::refusal(record.kind, refusal),
-    };
     if !why.is_empty() {
         let _ = write!(text, " {why}");
     }

@@ -4,14 +4,16 @@ use std::io::Write;
 
 use crate::codec::{kind, Record};
 
-use super::line::{end, expect, number, shown, Words};
+use super::line::{end, expect, follows, number, shown, Words};
 
 /// A field of a record as text: the word before it, what it is called in a
-/// message, and its place in the record.
+/// message, and its place in the record. One that may be left out is the last;
+/// where it is 0 it is not written.
 struct Field {
     word: Option<&'static str>,
     name: &'static str,
     of: Of,
+    left_out: bool,
 }
 
 #[derive(Clone, Copy)]
@@ -20,13 +22,14 @@ enum Of {
     Group,
     Amount,
     Ticks,
+    Overrun,
 }
 
 impl Of {
     fn most(self) -> u64 {
         match self {
             Of::Subject | Of::Group => u8::MAX as u64,
-            Of::Amount => u16::MAX as u64,
+            Of::Amount | Of::Overrun => u16::MAX as u64,
             Of::Ticks => u32::MAX as u64,
         }
     }
@@ -37,6 +40,7 @@ impl Of {
             Of::Group => r.group as u64,
             Of::Amount => r.amount as u64,
             Of::Ticks => r.ticks as u64,
+            Of::Overrun => r.overrun as u64,
         }
     }
 
@@ -47,6 +51,7 @@ impl Of {
             Of::Group => r.group = value as u8,
             Of::Amount => r.amount = value as u16,
             Of::Ticks => r.ticks = value as u32,
+            Of::Overrun => r.overrun = value as u16,
         }
     }
 }
@@ -63,6 +68,7 @@ const fn first(name: &'static str) -> Field {
         word: None,
         name,
         of: Of::Subject,
+        left_out: false,
     }
 }
 
@@ -71,6 +77,14 @@ const fn named(word: &'static str, of: Of) -> Field {
         word: Some(word),
         name: word,
         of,
+        left_out: false,
+    }
+}
+
+const fn or_none(word: &'static str, of: Of) -> Field {
+    Field {
+        left_out: true,
+        ..named(word, of)
     }
 }
 
@@ -82,6 +96,7 @@ static FORMS: [Form; 7] = [
         fields: &[
             named("thousandth", Of::Amount),
             named("interval", Of::Ticks),
+            or_none("overrun", Of::Overrun),
         ],
     },
     Form {
@@ -140,10 +155,13 @@ pub fn put_record(out: &mut Vec<u8>, r: &Record) {
         }
     } else if let Some(form) = FORMS.iter().find(|form| form.kind == r.kind) {
         out.extend_from_slice(form.word.as_bytes());
-        form.fields.iter().try_for_each(|field| match field.word {
-            Some(word) => write!(out, " {word} {}", field.of.get(r)),
-            None => write!(out, " {}", field.of.get(r)),
-        })
+        form.fields
+            .iter()
+            .try_for_each(|field| match (field.word, field.of.get(r)) {
+                (_, 0) if field.left_out => Ok(()),
+                (Some(word), value) => write!(out, " {word} {value}"),
+                (None, value) => write!(out, " {value}"),
+            })
     } else {
         Ok(())
     };
@@ -186,7 +204,11 @@ pub(super) fn get_record(word: &[u8], words: &mut Words) -> Option<Result<Record
         };
         for field in form.fields {
             if let Some(word) = field.word {
-                expect(words, word)?;
+                if !field.left_out {
+                    expect(words, word)?;
+                } else if !follows(words, word)? {
+                    break;
+                }
             }
             let name = match field.word {
                 Some(_) => field.name.to_string(),

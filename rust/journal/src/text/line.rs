@@ -57,6 +57,18 @@ pub(super) fn expect(words: &mut Words, wanted: &str) -> Result<(), String> {
     }
 }
 
+/// Whether a word follows that may be left out with all after it.
+pub(super) fn follows(words: &mut Words, wanted: &str) -> Result<bool, String> {
+    match words.next() {
+        None => Ok(false),
+        Some(word) if word == wanted.as_bytes() => Ok(true),
+        Some(word) => Err(format!(
+            "'{wanted}' or the end of the line expected, {} found",
+            shown(word)
+        )),
+    }
+}
+
 pub(super) fn end(words: &mut Words) -> Result<(), String> {
     match words.next() {
         None => Ok(()),

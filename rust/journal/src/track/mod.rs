@@ -5,7 +5,13 @@
 //! accepted reports only. In a span the lag is a straight line: f per tick
 //! while another thread has the core, f − 1000 while it has it itself, and
 //! level at 0 while it is blocked.
+//!
+//! The bound of the share guarantee goes with the lag: level, but for the time
+//! that another thread runs beyond its slice while this one waits, in which both
+//! grow by f per tick.
 
+mod bounds;
+mod clip;
 mod sink;
 mod survey;
 mod view;
@@ -16,19 +22,24 @@ mod tests;
 use std::ops::ControlFlow;
 
 use crate::codec::{answer, kind, reason, Record, GROUPS, NONE, THREADS};
-use crate::engine::{bound, Engine, Reply};
+use crate::engine::{bound, Engine, Reply, Settings};
 use crate::playback::{play, Journal, Step};
 use crate::progress::Progress;
+use crate::words;
 
-pub use sink::{At, End, Gap, Life, Moment, Refused, Sink, Span, What};
+pub use clip::{Clip, Window};
+pub use sink::{At, End, Gap, Life, Limit, Moment, Overrun, Refused, Sink, Span, What};
 pub use survey::{Greatest, Group, Longest, Refusals, Survey, Thread};
-pub use view::{Clip, Mark, View, Window};
+pub use view::{Mark, View};
 
 #[derive(Clone, Copy)]
 struct Piece {
     what: What,
     from: u64,
     lag: i64,
+    bound: i64,
+    /// Ticks of all overruns before it.
+    overruns: u64,
     record: u64,
 }
 
@@ -37,7 +48,10 @@ struct Alive {
     from: At,
     reservation: u64,
     group: u8,
-    settings: (u64, u64),
+    settings: Settings,
+    /// The bound of its lag, and since when it is level.
+    bound: i64,
+    level: u64,
     piece: Piece,
     /// A span not handed out yet: what follows may prolong it.
     held: Option<Span>,
@@ -48,6 +62,8 @@ struct Tracker<'s, S: Sink> {
     at: At,
     alive: [Option<Alive>; THREADS],
     gap: Option<Gap>,
+    /// Ticks of all overruns.
+    overruns: u64,
     /// The thread that runs.
     ran: Option<u8>,
     /// Groups that are open beside group 0.
@@ -86,30 +102,44 @@ impl<S: Sink> Tracker<'_, S> {
                 What::Wait => f,
                 What::Blocked => 0,
             },
+            bound: piece.bound,
+            last_bound: alive.bound,
+            overruns: piece.overruns,
             record: piece.record,
         });
     }
 
-    /// From here on the thread does this.
-    fn becomes(&mut self, n: usize, what: What, lag: i64, record: u64) {
+    /// From here on the thread does this, its lag counted afresh or not.
+    fn becomes(&mut self, n: usize, what: What, lag: i64, afresh: bool, record: u64) {
         self.finish(n);
-        let now = self.at.time;
+        if afresh {
+            self.unbind(n);
+        }
+        let (now, overruns) = (self.at.time, self.overruns);
         let Some(alive) = &mut self.alive[n] else {
             return;
         };
+        let bound = alive.bound;
         alive.piece = Piece {
             what,
             from: now,
             lag,
+            bound,
+            overruns,
             record,
         };
         match alive.held {
-            Some(span) if span.what == what && span.to == now && span.last_lag() == lag => {
+            Some(span)
+                if (span.what, span.to) == (what, now)
+                    && (span.last_lag(), span.last_bound) == (lag, bound) =>
+            {
                 alive.held = None;
                 alive.piece = Piece {
                     what,
                     from: span.from.time,
                     lag: span.lag,
+                    bound: span.bound,
+                    overruns: span.overruns,
                     record: span.record,
                 };
             }
@@ -120,6 +150,7 @@ impl<S: Sink> Tracker<'_, S> {
     /// The thread's time in the list is over; without an end it stays there.
     fn dies(&mut self, n: usize, end: Option<End>) {
         self.finish(n);
+        self.level(n, self.at.time);
         if let Some(alive) = self.alive[n].take() {
             if let Some(span) = alive.held {
                 self.sink.span(&span);
@@ -194,9 +225,13 @@ impl<S: Sink> Tracker<'_, S> {
         }
     }
 
-    fn record(&mut self, number: u64, r: &Record, reply: Reply, e: &impl Engine) {
+    fn record(&mut self, number: u64, r: &Record, reply: Reply, overrun: u32, e: &impl Engine) {
         let before = self.at;
         match reply.answer {
+            answer::ACCEPTED if r.kind == kind::REPORT => {
+                self.reported(number, r, overrun.into(), e);
+                self.ran = e.running();
+            }
             answer::ACCEPTED => {
                 self.accepted(number, r, reply.thread, e);
                 self.ran = e.running();
@@ -211,8 +246,8 @@ impl<S: Sink> Tracker<'_, S> {
                 self.sink.refusal(&Refused {
                     at: self.at,
                     number,
-                    record: r,
                     answer: refused,
+                    words: words::refusal(r, refused, e.settings()),
                     thread: match r.kind {
                         kind::ADMIT | kind::REMOVE | kind::WAKE => named,
                         kind::REPORT => self.ran,
@@ -249,15 +284,20 @@ impl<S: Sink> Tracker<'_, S> {
             }
             kind::ADMIT => {
                 let (reservation, group) = e.place(r.subject).unwrap_or((0, 0));
+                let bound = bound(reservation, e.settings());
                 self.alive[subject] = Some(Alive {
                     from: self.at,
                     reservation,
                     group,
                     settings: e.settings(),
+                    bound,
+                    level: self.at.time,
                     piece: Piece {
                         what: What::Wait,
                         from: self.at.time,
                         lag: 0,
+                        bound,
+                        overruns: self.overruns,
                         record: number,
                     },
                     held: None,
@@ -265,25 +305,33 @@ impl<S: Sink> Tracker<'_, S> {
             }
             kind::REMOVE => self.dies(subject, Some(End::Left(number))),
             kind::WAKE => {
-                self.becomes(subject, What::Wait, e.lag(r.subject), number);
+                self.becomes(subject, What::Wait, e.lag(r.subject), true, number);
                 self.sink.wake(r.subject, self.at, number);
             }
             kind::DISPATCH if thread == NONE => self.sink.idle(self.at, number),
             kind::DISPATCH => {
                 let n = thread as u8;
-                self.becomes(n as usize, What::Run, e.lag(n), number);
+                self.becomes(n as usize, What::Run, e.lag(n), false, number);
                 self.sink.dispatch(n, self.at, number);
             }
-            kind::REPORT => {
-                self.at.time += r.ticks as u64;
-                let Some(n) = self.ran else { return };
-                match r.reason {
-                    reason::EXIT => self.dies(n as usize, Some(End::Left(number))),
-                    reason::BLOCK => self.becomes(n as usize, What::Blocked, 0, number),
-                    _ => self.becomes(n as usize, What::Wait, e.lag(n), number),
-                }
-            }
             _ => {}
+        }
+    }
+
+    fn reported(&mut self, number: u64, r: &Record, overrun: u64, e: &impl Engine) {
+        self.at.time += u64::from(r.ticks);
+        let Some(ran) = self.ran else { return };
+        if overrun > 0 {
+            self.overran(ran, overrun, number);
+        }
+        let n = ran as usize;
+        match r.reason {
+            reason::EXIT => self.dies(n, Some(End::Left(number))),
+            reason::BLOCK => self.becomes(n, What::Blocked, 0, true, number),
+            reason => {
+                let yields = reason == reason::YIELD;
+                self.becomes(n, What::Wait, e.lag(ran), yields, number);
+            }
         }
     }
 }
@@ -296,6 +344,7 @@ pub fn track<E: Engine>(journal: Journal, progress: &mut Progress, sink: &mut im
         at: At::default(),
         alive: [None; THREADS],
         gap: None,
+        overruns: 0,
         ran: None,
         open: [false; GROUPS],
     };
@@ -310,7 +359,8 @@ pub fn track<E: Engine>(journal: Journal, progress: &mut Progress, sink: &mut im
                 number,
                 record,
                 reply,
-            } => t.record(number, &record, reply, engine),
+                overrun,
+            } => t.record(number, &record, reply, overrun, engine),
         }
         ControlFlow::Continue(())
     });

@@ -1,6 +1,6 @@
 //! What a journal shows, and the trait of those who take it.
 
-use crate::codec::Record;
+use crate::engine::Settings;
 
 /// A point in time, and how many gaps lie before it.
 #[derive(Clone, Copy, Debug, PartialEq, Eq, PartialOrd, Ord, Default)]
@@ -29,6 +29,11 @@ pub struct Span {
     /// Lag at `from`, and its growth per tick.
     pub lag: i64,
     pub slope: i64,
+    /// The most that the share guarantee lets the lag be at `from` and at `to`.
+    pub bound: i64,
+    pub last_bound: i64,
+    /// Ticks of all overruns in the journal before `from`.
+    pub overruns: u64,
     /// The record it began with.
     pub record: u64,
 }
@@ -48,6 +53,57 @@ impl Span {
     /// Lag at `to`, before what happens there.
     pub fn last_lag(&self) -> i64 {
         self.lag + self.slope * self.length() as i64
+    }
+}
+
+/// The part of a run beyond its slice.
+#[derive(Clone, Copy, Debug, PartialEq, Eq)]
+pub struct Overrun {
+    pub thread: u8,
+    pub from: At,
+    pub to: u64,
+    /// The report.
+    pub record: u64,
+}
+
+impl Overrun {
+    pub fn end(&self) -> At {
+        At {
+            time: self.to,
+            ..self.from
+        }
+    }
+
+    pub fn length(&self) -> u64 {
+        self.to - self.from.time
+    }
+}
+
+/// The most that the share guarantee lets a thread's lag be, for a time. It is
+/// level, or rises with the lag where another thread overruns its slice while
+/// this one waits. What is counted of the others' overruns is given back where
+/// the lag is counted afresh.
+#[derive(Clone, Copy, Debug, PartialEq, Eq)]
+pub struct Limit {
+    pub thread: u8,
+    pub from: At,
+    pub to: u64,
+    /// At `from`, and its growth per tick.
+    pub bound: i64,
+    pub slope: i64,
+}
+
+impl Limit {
+    pub fn end(&self) -> At {
+        At {
+            time: self.to,
+            ..self.from
+        }
+    }
+
+    /// At `to`.
+    pub fn last_bound(&self) -> i64 {
+        self.bound + self.slope * (self.to - self.from.time) as i64
     }
 }
 
@@ -74,9 +130,8 @@ pub struct Life {
     pub to: u64,
     pub reservation: u64,
     pub group: u8,
-    /// m and P.
-    pub settings: (u64, u64),
-    /// The most that the share guarantee lets its lag be.
+    pub settings: Settings,
+    /// The most that the share guarantee lets its lag be without overruns.
     pub bound: i64,
     pub end: End,
 }
@@ -97,11 +152,12 @@ pub struct Gap {
 
 /// A record that was refused.
 #[derive(Clone, Copy, Debug)]
-pub struct Refused<'a> {
+pub struct Refused {
     pub at: At,
     pub number: u64,
-    pub record: &'a Record,
     pub answer: u32,
+    /// Why.
+    pub words: &'static str,
     /// The thread that it names, or that runs when a report is refused.
     pub thread: Option<u8>,
 }
@@ -126,6 +182,11 @@ pub trait Sink {
     fn dispatch(&mut self, _thread: u8, _at: At, _record: u64) {}
     /// The core was given and taken back without a tick.
     fn empty_run(&mut self, _thread: u8, _at: At, _record: u64) {}
+    /// A run went on beyond its slice. Comes before every span that ends there
+    /// or later.
+    fn overrun(&mut self, _: &Overrun) {}
+    /// A thread's limits follow each other from its admission to its end.
+    fn limit(&mut self, _: &Limit) {}
     fn life(&mut self, _: &Life) {}
     fn wake(&mut self, _thread: u8, _at: At, _record: u64) {}
     fn idle(&mut self, _at: At, _record: u64) {}

@@ -4,11 +4,10 @@
 use std::collections::BTreeMap;
 
 use crate::codec::{GROUPS, THREADS};
-use crate::engine::{bound, Engine};
+use crate::engine::{Engine, Settings};
 use crate::text::Tally;
-use crate::words;
 
-use super::sink::{At, End, Gap, Life, Moment, Refused, Sink, Span, What};
+use super::sink::{At, End, Gap, Life, Limit, Moment, Overrun, Refused, Sink, Span, What};
 
 /// The longest span of a kind, where it begins and with which record.
 #[derive(Clone, Copy, Debug, Default, PartialEq, Eq)]
@@ -19,19 +18,19 @@ pub struct Longest {
 }
 
 impl Longest {
-    fn take(&mut self, span: &Span) {
-        if span.length() > self.ticks {
+    fn take(&mut self, ticks: u64, from: At, record: u64) {
+        if ticks > self.ticks {
             *self = Longest {
-                ticks: span.length(),
-                at: span.from.time,
-                record: span.record,
+                ticks,
+                at: from.time,
+                record,
             };
         }
     }
 }
 
 /// The largest lag, where it stood, in a span that began with the record, and
-/// the most that it could be.
+/// the most that it could be there.
 #[derive(Clone, Copy, Debug, Default, PartialEq, Eq)]
 pub struct Greatest {
     pub lag: i64,
@@ -54,9 +53,14 @@ pub struct Thread {
     pub longest_run: Longest,
     pub longest_wait: Longest,
     pub longest_block: Longest,
+    /// Runs beyond their slices, their ticks beyond them, and the longest with
+    /// its report.
+    pub overruns: u64,
+    pub overrun: u64,
+    pub longest_overrun: Longest,
     pub lowest: i64,
     pub largest: Greatest,
-    /// The largest bound of its lives.
+    /// The largest bound of its lag.
     pub bound: i64,
     /// Of its last life: reservation, group, achieved share and end.
     pub reservation: u64,
@@ -66,6 +70,7 @@ pub struct Thread {
     /// Of the life that has not ended yet.
     ticks_now: u64,
     largest_now: Greatest,
+    bound_now: i64,
 }
 
 /// A group, as it was opened last.
@@ -95,12 +100,14 @@ pub struct Survey {
     /// Numbers of the first and the last record.
     pub numbers: Option<(u64, u64)>,
     pub starts: u64,
-    /// m and P of the lives, the default ones if there are none.
-    pub settings: (u64, u64),
+    /// Those of the lives, the default ones if there are none.
+    pub settings: Settings,
     pub one_setting: bool,
     pub refusals: BTreeMap<(u32, &'static str), Refusals>,
     pub skipped: u64,
     pub idle: u64,
+    /// The bounds of some lags have grown by others' overruns.
+    pub grown: bool,
     pub gaps: Vec<Gap>,
     pub threads: [Thread; THREADS],
     pub groups: [Option<Group>; GROUPS],
@@ -122,6 +129,7 @@ impl Survey {
             refusals: BTreeMap::new(),
             skipped: 0,
             idle: 0,
+            grown: false,
             gaps: Vec::new(),
             threads: [Thread::default(); THREADS],
             groups: [None; GROUPS],
@@ -142,6 +150,11 @@ impl Survey {
     /// How many records were refused.
     pub fn refused(&self) -> u64 {
         self.refusals.values().map(|r| r.count).sum()
+    }
+
+    /// How many runs went on beyond their slices.
+    pub fn overruns(&self) -> u64 {
+        self.threads.iter().map(|t| t.overruns).sum()
     }
 
     fn thread(&mut self, n: u8) -> &mut Thread {
@@ -166,23 +179,27 @@ impl Sink for Survey {
     fn span(&mut self, span: &Span) {
         let t = self.thread(span.thread);
         t.spans += 1;
-        match span.what {
+        let longest = match span.what {
             What::Run => {
                 t.ticks += span.length();
                 t.ticks_now += span.length();
-                t.longest_run.take(span);
+                &mut t.longest_run
             }
-            What::Wait => t.longest_wait.take(span),
-            What::Blocked => t.longest_block.take(span),
-        }
-        for (lag, at) in [(span.lag, span.from.time), (span.last_lag(), span.to)] {
+            What::Wait => &mut t.longest_wait,
+            What::Blocked => &mut t.longest_block,
+        };
+        longest.take(span.length(), span.from, span.record);
+        for (lag, at, bound) in [
+            (span.lag, span.from.time, span.bound),
+            (span.last_lag(), span.to, span.last_bound),
+        ] {
             t.lowest = t.lowest.min(lag);
             if lag > t.largest_now.lag {
                 t.largest_now = Greatest {
                     lag,
                     at,
                     record: span.record,
-                    bound: 0,
+                    bound,
                 };
             }
         }
@@ -196,13 +213,26 @@ impl Sink for Survey {
         self.thread(thread).spans += 1;
     }
 
+    fn overrun(&mut self, o: &Overrun) {
+        let t = self.thread(o.thread);
+        t.overruns += 1;
+        t.overrun += o.length();
+        t.longest_overrun.take(o.length(), o.from, o.record);
+    }
+
+    fn limit(&mut self, limit: &Limit) {
+        let t = self.thread(limit.thread);
+        t.bound_now = t.bound_now.max(limit.bound).max(limit.last_bound());
+    }
+
     fn life(&mut self, life: &Life) {
         let earlier = self.admitted().next().is_some();
         self.one_setting &= !earlier || self.settings == life.settings;
         self.settings = life.settings;
         let t = self.thread(life.thread);
         t.lives += 1;
-        t.bound = t.bound.max(bound(life.reservation, life.settings));
+        let bound = std::mem::take(&mut t.bound_now);
+        t.bound = t.bound.max(bound);
         t.reservation = life.reservation;
         t.group = life.group;
         t.end = Some(life.end);
@@ -210,10 +240,13 @@ impl Sink for Survey {
         let ticks = std::mem::take(&mut t.ticks_now);
         t.share = (1000 * ticks).checked_div(time).unwrap_or(0);
         let mut largest = std::mem::take(&mut t.largest_now);
-        largest.bound = life.bound;
+        if largest.lag == 0 {
+            largest.bound = life.bound;
+        }
         if t.lives == 1 || largest.lag > t.largest.lag {
             t.largest = largest;
         }
+        self.grown |= bound > life.bound;
     }
 
     fn wake(&mut self, thread: u8, _: At, _: u64) {
@@ -225,12 +258,14 @@ impl Sink for Survey {
     }
 
     fn refusal(&mut self, r: &Refused) {
-        let words = words::refusal(r.record.kind, r.answer);
-        let like = self.refusals.entry((r.answer, words)).or_insert(Refusals {
-            count: 0,
-            record: r.number,
-            at: r.at.time,
-        });
+        let like = self
+            .refusals
+            .entry((r.answer, r.words))
+            .or_insert(Refusals {
+                count: 0,
+                record: r.number,
+                at: r.at.time,
+            });
         like.count += 1;
         if let Some(thread) = r.thread {
             self.thread(thread).refused += 1;

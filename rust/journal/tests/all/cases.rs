@@ -1,15 +1,19 @@
-//! The two shipped cases: what they come to, and that their files are current.
+//! The shipped cases: what they come to, and that their files are current.
 
 use std::fs;
+use std::ops::ControlFlow;
 
+use journal::codec::kind;
 use journal::engine::Proved;
+use journal::playback::{self, Journal, Step};
+use journal::progress::Progress;
 use model::replay::replay;
 
 use crate::broken::RefillOnWake;
-use crate::controller::{play, Server, LENGTH, NAMES, RESERVATIONS};
+use crate::controller::{control, play, Load, Server, LENGTH, NAMES, RESERVATIONS};
 use crate::files::{broken_picture, files, CASES};
 use crate::table::table;
-use crate::{answer::answer as asked, encode};
+use crate::{answer::answer as asked, encode, late};
 
 /// 2f(1000 − f)m + fP for readout and the default settings.
 const BOUND: i64 = 60_000_000;
@@ -59,6 +63,92 @@ fn replay_accepts_every_record_of_the_cases() {
     }
 }
 
+/// Of each run the thread, the slice and the ticks used.
+fn turns(journal: &[u8]) -> Vec<(u32, u32, u32)> {
+    let (mut out, mut given) = (Vec::new(), (0, 0));
+    let whole = Journal::whole(journal);
+    playback::play::<Proved>(whole, &mut Progress::silent(), |step, _| {
+        if let Step::Record {
+            record,
+            reply,
+            overrun,
+            ..
+        } = step
+        {
+            match record.kind {
+                kind::DISPATCH => given = (reply.thread, reply.slice),
+                kind::REPORT => {
+                    assert_eq!(overrun, record.ticks.saturating_sub(given.1));
+                    out.push((given.0, given.1, record.ticks));
+                }
+                _ => {}
+            }
+        }
+        ControlFlow::Continue(())
+    });
+    out
+}
+
+#[test]
+fn the_late_timer_leaves_debts_that_are_paid() {
+    let latest = u64::from(late::SETTINGS.overrun);
+    let outcome = late::play::<Proved>(latest, late::LENGTH);
+    let journal = outcome.journal();
+    let replayed = String::from_utf8(replay(&journal)).unwrap();
+    assert_eq!(replayed.lines().count(), outcome.records.len());
+    assert!(replayed.lines().all(|line| answer(line) == 0));
+    let turns = turns(&journal);
+    let beyond = turns.iter().filter(|(_, slice, used)| used > slice);
+    assert!(beyond.count() * 2 > turns.len());
+    assert!(turns.iter().all(|(_, slice, used)| *used <= slice + 90));
+    // What a thread has left, by slices and uses: after the end of its quantum the
+    // next slice is a quantum less the debt.
+    let mut paid = 0;
+    let mut left = late::RESERVATIONS.map(|f| 100 * f as i64);
+    for (thread, slice, used) in turns {
+        let (n, quantum) = (
+            thread as usize,
+            100 * late::RESERVATIONS[thread as usize] as i64,
+        );
+        assert_eq!(i64::from(slice), left[n].min(1000));
+        paid += u32::from(left[n] < quantum && left[n] >= quantum - 90);
+        left[n] -= i64::from(used);
+        if left[n] <= 0 {
+            left[n] += quantum;
+        }
+    }
+    assert!(paid > 5, "{paid}");
+    // On time there are none.
+    let on_time = late::play::<Proved>(0, late::LENGTH).journal();
+    assert!(self::turns(&on_time)
+        .iter()
+        .all(|(_, slice, used)| used <= slice));
+}
+
+/// Threads that never wait have the shares of their reservations.
+#[test]
+fn a_late_timer_changes_no_share() {
+    let load = Load {
+        settings: late::SETTINGS,
+        reservations: &late::RESERVATIONS,
+        bursts: &[u64::MAX; late::THREADS],
+    };
+    // Always late by the same, or each time by another amount.
+    for step in [0, 37] {
+        let mut now = 53;
+        let mut timer = || {
+            now = (now + step) % 91;
+            now
+        };
+        let late = control::<Proved>(&load, 10_000_000, |_| 0, &mut timer);
+        let on_time = control::<Proved>(&load, 10_000_000, |_| 0, || 0);
+        for (n, exact) in [625, 125, 250].into_iter().enumerate() {
+            assert!(late.shares[n].abs_diff(exact) <= 1, "{:?}", late.shares);
+            assert!(on_time.shares[n].abs_diff(exact) <= 1);
+        }
+    }
+}
+
 #[test]
 fn the_picture_of_the_broken_rule_says_so_and_shows_the_lost_share() {
     let svg = broken_picture();
@@ -85,7 +175,7 @@ fn the_table_shows_both_rules() {
 #[test]
 fn the_shipped_files_are_current() {
     let files = files();
-    assert_eq!(files.len(), 11);
+    assert_eq!(files.len(), 14);
     for (path, bytes) in files {
         let shipped = fs::read(&path).unwrap_or_default();
         assert!(shipped == bytes, "{} is out of date", path.display());

@@ -217,6 +217,13 @@ fn help_and_version() {
             assert!(help.stdout.starts_with(start.as_bytes()));
             let text = String::from_utf8(help.stdout).unwrap();
             assert!(text.lines().all(|line| line.len() <= 82), "{command}");
+            // The overrun limit, or what lies beyond a slice.
+            let word = if command == "encode" {
+                "overrun 5"
+            } else {
+                "beyond"
+            };
+            assert_eq!(text.contains(word), command != "decode", "{command}");
         }
     }
     let version = run(&["--version"], b"");

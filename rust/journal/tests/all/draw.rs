@@ -6,13 +6,15 @@ use journal::engine::Proved;
 use journal::names::Names;
 use journal::playback::Journal;
 use journal::progress::Progress;
+use journal::track::{Mark, View};
 use model::calls::{apply, record};
 use model::random::{call, journal, Rng};
 use model::rule::Scheduler;
 
 use crate::controller::{play, Server};
 use crate::files::LISTING;
-use crate::{encode, ours, pack};
+use crate::stats::LATE;
+use crate::{encode, late, ours, pack};
 
 pub fn drawn(journal: &[u8], options: &Options) -> Drawing {
     draw::<Proved>(Journal::whole(journal), options, &mut Progress::silent()).unwrap()
@@ -125,6 +127,128 @@ fn the_listing_shows_runs_a_wake_refusals_and_lags() {
     for text in ["833 ‰", "166 ‰", "60 ms", "20 ms", "5 ms", "3.2 ms"] {
         assert!(svg.contains(&format!(">{text}<")), "{text}");
     }
+}
+
+/// The rectangles of a class, as x and width.
+fn rects(svg: &str, class: &str) -> Vec<(f64, f64)> {
+    let start = format!("<rect class=\"{class}\" ");
+    let number = |rect: &str, name: &str| -> f64 {
+        let value = between(rect, &format!("{name}=\""), "\"");
+        value.parse().unwrap()
+    };
+    let rects = svg.split(&start).skip(1);
+    rects
+        .map(|rect| (number(rect, "x"), number(rect, "width")))
+        .collect()
+}
+
+/// The bounds of the lags, a path a thread, without that of the legend.
+fn bounds(svg: &str) -> Vec<&str> {
+    let paths = svg.split("<path class=\"bound\" d=\"").skip(1);
+    let paths = paths.map(|rest| rest.split('"').next().unwrap());
+    paths.filter(|path| !path.contains('h')).collect()
+}
+
+#[test]
+fn what_a_run_used_beyond_its_slice_is_marked() {
+    let svg = svg(&encode(LATE));
+    check(&svg);
+    assert!(svg.contains("m 10, P 1,000, O 9 · 3 overruns"));
+    assert!(svg.contains(">beyond its slice<") && svg.contains(".late{"));
+    assert!(svg.contains("thread 1 runs 0.009 ms beyond its slice, up to record 4"));
+    assert!(svg.contains("thread 2 runs 0.005 ms beyond its slice, up to record 10"));
+    assert!(svg.contains(
+        "thread 2: reservation 20 ‰ in group 0, 2 dispatches, 0 wakes, 2 overruns of 0.01 ms<"
+    ));
+    assert!(svg.contains("(2f(1000 − f)m + fP + fV) / 1000, V others' overruns<"));
+    // Behind the one of the legend three marks, each at the end of its run, and
+    // as long as it is on the axis.
+    let (runs, marks) = (rects(&svg, "run"), rects(&svg, "late"));
+    assert_eq!((runs.len(), marks.len()), (6, 4));
+    let axis = between(&svg, "<path class=\"axis\" d=\"M", "\"");
+    let plot: f64 = axis.split_once('h').unwrap().1.parse().unwrap();
+    for ((x, w), ticks) in marks[1..].iter().zip([9.0, 5.0, 5.0]) {
+        assert!((w - plot / 605.0 * ticks).abs() < 0.02, "{w} {ticks}");
+        let end = x + w;
+        assert!(runs[2..].iter().any(|(x, w)| (x + w - end).abs() < 0.02));
+    }
+    // The bounds have a rise and a fall each.
+    let count = |letter: char| {
+        bounds(&svg)
+            .iter()
+            .map(|path| path.matches(letter).count())
+            .collect::<Vec<_>>()
+    };
+    assert_eq!((count('L'), count('V')), (vec![1, 1], vec![1, 1]));
+}
+
+#[test]
+fn without_overruns_there_is_no_word_of_them() {
+    let on_time = LATE.replace("109", "100").replace("205", "200");
+    for text in [LISTING, &on_time] {
+        let svg = svg(&encode(text));
+        for word in ["late", "beyond", "overrun", "fV"] {
+            assert!(!svg.contains(word), "{word}");
+        }
+        // A bound is one line.
+        assert_eq!(bounds(&svg).len(), 2);
+        for path in bounds(&svg) {
+            assert!(!path.contains(['L', 'V']) && path.matches('M').count() == 1);
+        }
+    }
+    // Other threads' overruns count also where they are not shown.
+    let options = Options {
+        view: View {
+            threads: vec![2],
+            ..View::default()
+        },
+        ..Options::default()
+    };
+    let two = drawn(&encode(LATE), &options).svg;
+    assert!(!two.contains("thread 1") && two.contains(" + fV"));
+    assert!(two.contains("2 overruns"));
+}
+
+#[test]
+fn a_part_that_begins_where_a_bound_falls_has_no_fall() {
+    let journal = encode(LATE);
+    for (from, to, falls) in [(0, 605, 1), (314, 605, 0), (0, 314, 0), (313, 315, 1)] {
+        let options = Options {
+            view: View {
+                from: Some(Mark::Time(from)),
+                to: Some(Mark::Time(to)),
+                threads: vec![2],
+            },
+            ..Options::default()
+        };
+        let svg = drawn(&journal, &options).svg;
+        check(&svg);
+        let path = bounds(&svg)[0];
+        assert_eq!(path.matches('V').count(), falls, "{from} to {to}: {path}");
+    }
+}
+
+#[test]
+fn many_overruns_are_thinned_out() {
+    let outcome = late::play::<Proved>(90, 10_000_000);
+    let journal = outcome.journal();
+    let svg = svg(&journal);
+    check(&svg);
+    assert!(svg.contains("(heights: parts of the time"));
+    assert!(svg.contains(">beyond its slice<") && svg.contains(" + fV"));
+    // A mark in each lane besides that of the legend.
+    assert_eq!(rects(&svg, "late").len(), 1);
+    assert_eq!(svg.matches("<path class=\"late\"").count(), 3);
+    assert!(svg.len() < 200_000, "{}", svg.len());
+    // Readout never waits: its bound rises from one end to the other.
+    let path = bounds(&svg)[0];
+    assert_eq!(path.matches('M').count(), 1);
+    let steps: Vec<f64> = path
+        .split('V')
+        .skip(1)
+        .map(|step| step.split('H').next().unwrap().parse().unwrap())
+        .collect();
+    assert!(steps.len() > 50 && steps.is_sorted_by(|a, b| a >= b));
 }
 
 #[test]
@@ -305,11 +429,13 @@ fn the_worst_journal_has_a_bounded_picture() {
         apply(&mut s, call);
         records.push(ours(record(call)));
         if r.chance(1, 5000) {
-            s = Scheduler::default();
+            let overrun = r.below(100);
+            s = Scheduler::start(100, 20_000, overrun).unwrap();
             records.push(Record {
                 kind: kind::START,
                 amount: 100,
                 ticks: 20_000,
+                overrun: overrun as u16,
                 ..Record::default()
             });
         }

@@ -18,6 +18,8 @@ mod broken;
 mod controller;
 #[path = "../../examples/cases/files.rs"]
 mod files;
+#[path = "../../examples/cases/late.rs"]
+mod late;
 #[path = "../../examples/cases/table.rs"]
 mod table;
 
@@ -40,6 +42,7 @@ fn ours(r: model::blocks::Record) -> Record {
         group: r.group,
         reason: r.reason,
         amount: r.amount,
+        overrun: r.overrun,
         ticks: r.ticks,
     }
 }

@@ -5,7 +5,7 @@ use journal::names::Names;
 use journal::playback::{play, Journal, Step};
 use journal::progress::Progress;
 use journal::stats::{stats, Figures};
-use journal::track::View;
+use journal::track::{Mark, View};
 use model::random::{journal, Rng};
 use std::ops::ControlFlow;
 
@@ -23,7 +23,8 @@ fn lines(text: &str, start: &str) -> Vec<String> {
     let found = text.lines().filter(|line| line.starts_with(start));
     let words = found.map(|line| line.split_whitespace().collect::<Vec<_>>());
     let lines: Vec<String> = words.map(|words| words.join(" ")).collect();
-    assert_eq!(lines.len(), 2, "{text}");
+    let tables = 2 + usize::from(text.contains(" overruns "));
+    assert_eq!(lines.len(), tables, "{text}");
     lines
 }
 
@@ -52,6 +53,61 @@ fn figures_of_the_listing() {
     assert!(text.contains("  13  more used than the slice: 1 time, first at record 12, 42 ms\n"));
 }
 
+/// Thread 1 of 10 and thread 2 of 20, each beyond its slice.
+pub const LATE: &str = "start thousandth 10 interval 1000 overrun 9\n\
+    admit 1 group 0 reservation 10\nadmit 2 group 0 reservation 20\n\
+    dispatch\nreport tick 109\ndispatch\nreport yield 205\n\
+    dispatch\nreport block 91\ndispatch\nreport tick 200\nwake 1\n";
+
+#[test]
+fn figures_of_runs_beyond_their_slices() {
+    let figures = figures(&encode(LATE));
+    let text = figures.text("late", &Names::default());
+    assert!(text.contains("0.605 ms of processor time, m 10, P 1000, O 9, 1 start"));
+    // How many, together, the longest and its report.
+    assert_eq!(lines(&text, "thread 1")[2], "thread 1 1 0.009 0.009 4");
+    let two = lines(&text, "thread 2");
+    assert_eq!(two[2], "thread 2 2 0.010 0.005 6");
+    // The largest lag, 20 × 109, was at most 412,000 + 20 × 9.
+    assert!(two[1].ends_with(" 0.002 0.109 0.412 0 %"), "{}", two[1]);
+    assert!(text.contains("\nAn overrun is what a run used beyond its slice."));
+    assert!(text.lines().all(|line| line.chars().count() <= 100));
+    let csv = figures.csv(&Names::default());
+    let rows: Vec<&str> = csv.lines().skip(1).collect();
+    assert!(rows[0].ends_with(",208000,runnable,1,9,9,100,4"), "{csv}");
+    assert!(
+        rows[1].ends_with(",2180,109,2,412180,runnable,2,10,5,309,6"),
+        "{csv}"
+    );
+    // Without an overrun there is no word of any, whatever the limit is.
+    let on_time = LATE.replace("109", "100").replace("205", "200");
+    let text = self::figures(&encode(&on_time)).text("on time", &Names::default());
+    assert!(text.contains("m 10, P 1000, O 9, 1 start") && !text.contains("overrun"));
+    let without = on_time.replace(" overrun 9", "");
+    let text = self::figures(&encode(&without)).text("on time", &Names::default());
+    assert!(text.contains("m 10, P 1000, 1 start") && !text.contains("overrun"));
+}
+
+#[test]
+fn a_part_has_its_part_of_an_overrun() {
+    let journal = encode(LATE);
+    let view = View {
+        from: Some(Mark::Time(50)),
+        to: Some(Mark::Time(105)),
+        threads: Vec::new(),
+    };
+    let whole = Journal::whole(&journal);
+    let figures = stats::<Proved>(whole, &view, &mut Progress::silent()).unwrap();
+    let csv = figures.csv(&Names::default());
+    let rows: Vec<&str> = csv.lines().skip(1).collect();
+    // 5 of 9 ticks: of the overrun, and in the bound of the other's lag.
+    assert!(rows[0].ends_with(",goes on,1,5,5,100,4"), "{csv}");
+    assert!(
+        rows[1].ends_with(",2100,105,2,412100,goes on,0,0,0,0,0"),
+        "{csv}"
+    );
+}
+
 #[test]
 fn comma_separated_values() {
     let mut names = Names::default();
@@ -64,7 +120,7 @@ fn comma_separated_values() {
     assert_eq!(
         lines[1],
         "5,\"read, \"\"out\"\"\",0,500,833,1,50000,3,1,1,32000,0,3,10000,32000,8,0,0,0,\
-         5000000,42000,8,60000000,runnable"
+         5000000,42000,8,60000000,runnable,0,0,0,0,0"
     );
     assert_eq!(lines[0].split(',').count(), lines[2].split(',').count());
     assert_eq!(
@@ -98,15 +154,18 @@ fn figures_of_nothing() -> String {
 #[test]
 fn random_journals_add_up() {
     let mut r = Rng::new(31);
+    let mut beyond = 0;
     for _ in 0..300 {
         let journal = journal(&mut r);
-        let (mut dispatches, mut refused) = (0u64, 0u64);
+        let (mut dispatches, mut refused, mut overruns) = (0u64, 0u64, (0u64, 0u64));
         play::<Proved>(
             Journal::whole(&journal),
             &mut Progress::silent(),
             |step, _| {
-                if let Step::Record { reply, .. } = step {
+                if let Step::Record { reply, overrun, .. } = step {
                     let Reply { answer, slice, .. } = reply;
+                    overruns.0 += u64::from(overrun > 0);
+                    overruns.1 += u64::from(overrun);
                     dispatches += u64::from(answer == 0 && slice > 0);
                     refused += u64::from(answer != 0 && answer != 20);
                 }
@@ -114,15 +173,24 @@ fn random_journals_add_up() {
             },
         );
         let figures = figures(&journal);
-        let sum = |csv: &str, column: usize| -> u64 {
+        let sum = |csv: &str, column: &str| -> u64 {
+            let headings = csv.lines().next().unwrap().rsplit(',');
+            let column = headings
+                .into_iter()
+                .position(|name| name == column)
+                .unwrap();
             let rows = csv.lines().skip(1);
             let fields = rows.map(|row| row.rsplit(',').nth(column).unwrap());
             fields.map(|n| n.parse::<u64>().unwrap()).sum()
         };
-        // Runs stand 17th and the refusals' count 3rd from the end.
-        assert_eq!(sum(&figures.csv(&Names::default()), 16), dispatches);
-        assert_eq!(sum(&figures.refusals_csv(), 2), refused);
+        let threads = figures.csv(&Names::default());
+        assert_eq!(sum(&threads, "runs"), dispatches);
+        assert_eq!(sum(&threads, "overruns"), overruns.0);
+        assert_eq!(sum(&threads, "overrun"), overruns.1);
+        assert_eq!(sum(&figures.refusals_csv(), "count"), refused);
+        beyond += overruns.0;
     }
+    assert!(beyond > 300, "{beyond}");
 }
 
 #[test]

@@ -48,16 +48,27 @@ fn record(kind: u8, [subject, group, reason]: [u8; 3], amount: u16, ticks: u32) 
         group,
         reason,
         amount,
+        overrun: 0,
         ticks,
+    }
+}
+
+/// A start with the default m and P.
+fn start(overrun: u16) -> Record {
+    Record {
+        overrun,
+        ..record(kind::START, [0, 0, 0], 100, 20_000)
     }
 }
 
 #[test]
 fn every_kind_has_its_line() {
     let table = [
+        ("start thousandth 100 interval 20000", start(0)),
+        ("start thousandth 100 interval 20000 overrun 1", start(1)),
         (
-            "start thousandth 100 interval 20000",
-            record(kind::START, [0, 0, 0], 100, 20_000),
+            "start thousandth 100 interval 20000 overrun 65535",
+            start(65_535),
         ),
         (
             "open 2 parent 0 ceiling 300",
@@ -98,6 +109,61 @@ fn every_kind_has_its_line() {
         assert_eq!(encode(line).unwrap(), block, "{line}");
         assert_eq!(decode(&block), format!("block 0\n{line}\n"));
     }
+}
+
+#[test]
+fn an_overrun_limit_of_0_may_be_left_out_and_is() {
+    let bare = "start thousandth 100 interval 20000";
+    let block = blocks(&[&[start(0)]]);
+    assert_eq!(encode(&format!("{bare} overrun 0")).unwrap(), block);
+    assert_eq!(
+        encode(&format!("{bare} overrun 000 # none")).unwrap(),
+        block
+    );
+    assert_eq!(decode(&block), format!("block 0\n{bare}\n"));
+    // The shipped texts from before there was one come back as they are.
+    for name in ["steady", "exporter"] {
+        let path = crate::root().join(format!("rust/journal/examples/{name}.txt"));
+        let text = std::fs::read_to_string(path).unwrap();
+        let bare: String = text
+            .split_inclusive('\n')
+            .filter(|line| !line.starts_with('#'))
+            .collect();
+        assert!(!bare.contains("overrun"));
+        assert!(decode(&encode(&text).unwrap()) == bare, "{name}");
+    }
+}
+
+#[test]
+fn an_overrun_limit_in_another_record_is_damage() {
+    let sealed = |mut block: Vec<u8>| {
+        let (body, check) = block.split_at_mut(BLOCK - 2);
+        check.copy_from_slice(&model::blocks::check((&*body).try_into().unwrap()));
+        block
+    };
+    // A start's bytes 10 and 11 hold its limit.
+    let mut block = blocks(&[&[start(0)]]);
+    block[14 + 10..14 + 12].copy_from_slice(&[0x34, 0x12]);
+    let text = "block 0\nstart thousandth 100 interval 20000 overrun 4660\n";
+    assert_eq!(decode(&sealed(block)), text);
+    for (record, at) in [
+        (record(kind::DISPATCH, [0, 0, 0], 0, 0), 10),
+        (record(kind::REPORT, [0, 0, 0], 0, 5), 11),
+        (start(7), 12),
+        (start(7), 15),
+    ] {
+        let mut block = blocks(&[&[record]]);
+        block[14 + at] = 1;
+        let block = sealed(block);
+        let text = decode(&block);
+        assert!(text.starts_with("damaged 0 19 #"), "{text}");
+        assert_eq!(encode(&text).unwrap(), block);
+    }
+    let dispatch = Record {
+        overrun: 1,
+        ..record(kind::DISPATCH, [0, 0, 0], 0, 0)
+    };
+    assert_eq!(codec::write(0, &[dispatch]), Err(19));
 }
 
 #[test]
@@ -254,6 +320,34 @@ fn problems_name_the_line_and_what_is_wrong_with_it() {
             "start thousandth 100",
             "start: the line ends where 'interval' is expected",
         ),
+        (
+            "start thousandth 100 interval 20000 overrun",
+            "start: the line ends before the number of overrun",
+        ),
+        (
+            "start thousandth 100 interval 20000 overrun -1",
+            "start: overrun: '-1' is not a decimal number",
+        ),
+        (
+            "start thousandth 100 interval 20000 overrun 65536",
+            "start: overrun: '65536' is above 65535",
+        ),
+        (
+            "start thousandth 100 interval 20000 overun 5",
+            "start: 'overrun' or the end of the line expected, 'overun' found",
+        ),
+        (
+            "start thousandth 100 interval 20000 overrun 5 6",
+            "start: '6' after the end of the line",
+        ),
+        (
+            "start thousandth 100 overrun 5",
+            "start: 'interval' expected, 'overrun' found",
+        ),
+        (
+            "wake 5 overrun 5",
+            "wake: 'overrun' after the end of the line",
+        ),
         ("block 7", "block 7 stands in the place of block 1"),
         ("block x", "the block: 'x' is not a decimal number"),
         ("block 1 2", "'2' after the end of the line"),
@@ -370,6 +464,48 @@ fn run_says_why() {
     assert!(lines[2].ends_with("# 0 0 64 0 0 idle"));
     assert!(lines[3].ends_with("# 1 7 0 0 0 number above 63 or not admitted"));
     assert!(lines[4].ends_with("# 2 11 0 0 0 nothing is running"));
+}
+
+/// A thread of 10 with m 10, P 1000, O 9: quantum 100.
+#[test]
+fn run_says_how_far_a_report_goes_beyond_the_slice() {
+    let text = "start thousandth 10 interval 1000 overrun 10\n\
+                start thousandth 10 interval 1000 overrun 9\n\
+                admit 0 group 0 reservation 10\ndispatch\nreport tick 110\nreport tick 109\n\
+                dispatch\nreport yield 95\ndispatch\nreport tick 96\ndispatch\nreport exit 105\n\
+                start thousandth 1 interval 1 overrun 1\nstart thousandth 1 interval 1\n\
+                admit 0 group 0 reservation 10\ndispatch\nreport tick 2\n\
+                start thousandth 0 interval 1\n";
+    let text = run(&encode(text).unwrap());
+    let answers: Vec<&str> = text
+        .lines()
+        .filter_map(|line| Some(line.split_once(" # ")?.1))
+        .collect();
+    assert_eq!(
+        answers,
+        [
+            "0 1 0 0 0 m, P or O outside its range",
+            "1 0 0 0 0",
+            "2 0 0 0 0",
+            "3 0 0 100 0",
+            "4 13 0 0 0 more used than the slice and O",
+            "5 0 0 0 0 9 beyond the slice",
+            // A debt of 9 is kept.
+            "6 0 0 91 0",
+            "7 0 0 0 0 4 beyond the slice",
+            // So is one of 4 at a yield.
+            "8 0 0 96 0",
+            "9 0 0 0 0",
+            "10 0 0 100 0",
+            "11 0 0 0 0 5 beyond the slice",
+            "12 1 0 0 0 m, P or O outside its range",
+            "13 0 0 0 0",
+            "14 0 0 0 0",
+            "15 0 0 1 0",
+            "16 13 0 0 0 more used than the slice",
+            "17 1 0 0 0 m or P outside its range",
+        ]
+    );
 }
 
 #[test]
