@@ -160,7 +160,9 @@ impl Sink for Exact<'_> {
     fn overrun(&mut self, o: &Overrun) {
         let n = o.thread as usize;
         let Some(lane) = self.lanes[n] else { return };
-        let x = (self.layout.x(o.from), self.layout.x(o.end()));
+        let end = self.layout.x(o.end());
+        // A narrow one grows into its run.
+        let x = (self.layout.x(o.from).min(end - NARROW), end);
         let title = self.titles.then(|| {
             format!(
                 "{} runs {} beyond its slice, up to record {}",

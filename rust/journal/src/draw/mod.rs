@@ -52,9 +52,9 @@ impl Default for Options {
     }
 }
 
-/// Drawn span by span, in the usual width, up to so many spans, wakes or
-/// overruns a thread, refusals, starts or gaps, and up to so many spans in all.
-/// An overrun counts as a span of each thread, whose bounds it moves.
+/// Drawn span by span, in the usual width, up to so many spans, wakes, overruns
+/// or rises of its bound a thread, refusals, starts or gaps, and up to so many
+/// spans and rises in all.
 const FEW: u64 = 400;
 const FEW_IN_ALL: u64 = 4000;
 /// Up to so many spans and overruns in all each says what it is when pointed at.
@@ -111,11 +111,11 @@ impl Detail {
     fn of(s: &Survey, width: u32) -> Detail {
         let most = |count: fn(&Thread) -> u64| s.threads.iter().map(count).max();
         let spans: u64 = s.threads.iter().map(|t| t.spans).sum();
-        let moved = s.overruns() * s.admitted().count() as u64;
+        let rises: u64 = s.threads.iter().map(|t| t.rises).sum();
         let marks = s.refused().max(s.starts).max(s.gaps.len() as u64);
         let few = FEW * u64::from(width) / u64::from(WIDTH);
-        let crowded = most(|t| t.spans.max(t.wakes).max(t.overruns)) > Some(few);
-        if crowded || spans + moved > FEW_IN_ALL || marks > few {
+        let crowded = most(|t| t.spans.max(t.wakes).max(t.overruns).max(t.rises)) > Some(few);
+        if crowded || spans + rises > FEW_IN_ALL || marks > few {
             return Detail::Thin;
         }
         Detail::Exact {

@@ -60,8 +60,10 @@ pub struct Thread {
     pub longest_overrun: Longest,
     pub lowest: i64,
     pub largest: Greatest,
-    /// The largest bound of its lag.
+    /// The largest bound of its lag, and how often a bound has risen by an
+    /// overrun.
     pub bound: i64,
+    pub rises: u64,
     /// Of its last life: reservation, group, achieved share and end.
     pub reservation: u64,
     pub group: u8,
@@ -222,7 +224,8 @@ impl Sink for Survey {
 
     fn limit(&mut self, limit: &Limit) {
         let t = self.thread(limit.thread);
-        t.bound_now = t.bound_now.max(limit.bound).max(limit.last_bound());
+        t.bound_now = t.bound_now.max(limit.last_bound());
+        t.rises += u64::from(limit.slope > 0);
     }
 
     fn life(&mut self, life: &Life) {

@@ -207,6 +207,16 @@ fn without_overruns_there_is_no_word_of_them() {
     let two = drawn(&encode(LATE), &options).svg;
     assert!(!two.contains("thread 1") && two.contains(" + fV"));
     assert!(two.contains("2 overruns"));
+    // They make no picture large: one thread overruns 2000 times while another waits.
+    let mut text = String::from(
+        "start thousandth 1000 interval 1 overrun 1\n\
+         admit 1 group 0 reservation 900\nadmit 2 group 0 reservation 9\n",
+    );
+    text.push_str(&"dispatch\nreport tick 2\n".repeat(2000));
+    let waits = drawn(&encode(&text), &options).svg;
+    check(&waits);
+    assert!(waits.contains(" + fV") && waits.contains("(heights:"));
+    assert!(waits.len() < 50_000, "{}", waits.len());
 }
 
 #[test]
