@@ -52,6 +52,7 @@ fn main() {
     for (origin, [unsound, sound]) in ORIGINS.iter().zip(attack.states) {
         println!("states, {origin}: {sound} sound, {unsound} not");
     }
+    println!("{:?}", attack.late);
     let spent = begun.elapsed().as_secs_f64();
     println!("idle dispatches {}", attack.idle);
     println!("{} calls in {spent:.1} s, no difference", attack.calls());

@@ -2,10 +2,12 @@
 //!
 //! States are held as the model's. The library's are made from them field by
 //! field, and what it hands back is read field by field, so that every number
-//! of a state is compared.
+//! of a state is compared, and then byte by byte.
 
 #![forbid(unsafe_code)]
 
+use crate::bytes;
+use crate::late::Late;
 use model::accounts::Entry;
 use model::blocks::Record;
 use model::calls::{self, Call};
@@ -34,8 +36,9 @@ macro_rules! state {
             }),
             meter: $s.meter,
             settings: $side::Settings {
-                thousandth: $s.settings.thousandth,
                 interval: $s.settings.interval,
+                thousandth: $s.settings.thousandth,
+                overrun: $s.settings.overrun,
             },
             count: $s.count,
             running: $s.running,
@@ -61,6 +64,7 @@ pub fn to_library_record(record: &Record) -> numbers::Record {
         group: record.group,
         reason: record.reason,
         amount: record.amount,
+        overrun: record.overrun,
         ticks: record.ticks,
     }
 }
@@ -73,6 +77,7 @@ pub fn to_model_record(record: &numbers::Record) -> Record {
         group: record.group,
         reason: record.reason,
         amount: record.amount,
+        overrun: record.overrun,
         ticks: record.ticks,
     }
 }
@@ -95,8 +100,9 @@ pub const ZEROS: Scheduler = Scheduler {
     groups: [Group::CLOSED; 16],
     meter: 0,
     settings: Settings {
-        thousandth: 0,
         interval: 0,
+        thousandth: 0,
+        overrun: 0,
     },
     count: 0,
     running: 0,
@@ -139,14 +145,20 @@ fn parts(reply: &numbers::Reply) -> (Reply, Scheduler) {
 }
 
 /// Makes the call on both sides. The replies and the states after it are the
-/// same, and a refusal leaves the state as it was.
+/// same, number by number and byte by byte, and a refusal leaves the state as
+/// it was.
 pub fn both(s: &mut Scheduler, call: Call) -> Reply {
     let before = *s;
-    let (reply, after) = library(&before, call);
+    let made = made(to_library(&before), call);
+    let (reply, after) = parts(&made);
     let wanted = calls::apply(s, call);
     assert!(
         reply == wanted && after == *s,
         "{call:?}\nthe library's {reply:?}\nthe model's   {wanted:?}\nin {before:?}\nthe library's {after:?}\nthe model's   {s:?}"
+    );
+    assert!(
+        bytes::of(&made) == bytes::reply(&wanted, s),
+        "{call:?}: bytes"
     );
     if reply.answer != 0 {
         assert_eq!(reply, Reply::plain(reply.answer));
@@ -156,17 +168,20 @@ pub fn both(s: &mut Scheduler, call: Call) -> Reply {
 }
 
 /// Starts both sides. A refused start has a state of zeros.
-pub fn start(m: u64, p: u64) -> Result<Scheduler, u32> {
-    let (reply, state) = parts(&numbers::start(m, p));
+pub fn start(m: u64, p: u64, o: u64) -> Result<Scheduler, u32> {
+    let made = numbers::start(m, p, o);
+    let (reply, state) = parts(&made);
     assert_eq!(reply, Reply::plain(reply.answer));
-    let wanted = Scheduler::start(m, p);
-    match wanted {
-        Ok(s) => assert!(reply.answer == 0 && state == s, "start {m} {p}: {reply:?}"),
-        Err(refusal) => assert!(
-            reply.answer == refusal && state == ZEROS,
-            "start {m} {p}: {reply:?}"
-        ),
-    }
+    let wanted = Scheduler::start(m, p, o);
+    let (answer, after) = match wanted {
+        Ok(s) => (0, s),
+        Err(refusal) => (refusal, ZEROS),
+    };
+    assert!(
+        reply.answer == answer && state == after,
+        "start {m} {p} {o}: {made:?}"
+    );
+    assert!(bytes::of(&made) == bytes::reply(&Reply::plain(answer), &after));
     wanted
 }
 
@@ -197,10 +212,23 @@ pub struct Tally {
     counts: [[u64; 17]; 7],
     /// Accepted dispatches that found no runnable thread.
     pub idle: u64,
+    /// What occurred of overruns.
+    pub late: Late,
 }
 
 impl Tally {
-    pub fn add(&mut self, call: Call, reply: Reply) {
+    /// Makes the call on both sides and counts it.
+    pub fn both(&mut self, s: &mut Scheduler, call: Call) -> Reply {
+        let before = *s;
+        let reply = both(s, call);
+        if reply.answer != 16 {
+            self.late.call(&before, call, reply.answer);
+        }
+        self.add(call, reply);
+        reply
+    }
+
+    fn add(&mut self, call: Call, reply: Reply) {
         self.counts[kind(call)][reply.answer as usize] += 1;
         self.idle += (call == Call::Dispatch && reply.answer == 0 && reply.thread == 64) as u64;
     }
@@ -233,5 +261,6 @@ impl Tally {
             println!("{name}: {}", seen.join(", "));
         }
         println!("idle dispatches: {}", self.idle);
+        println!("{:?}", self.late);
     }
 }

@@ -97,7 +97,7 @@ pub unsafe extern "C" fn LLVMFuzzerTestOneInput(data: *const u8, size: usize) ->
         unsafe { std::slice::from_raw_parts(data, size) }
     };
     let case = case(recipe);
-    let printed = replay(&case.journal);
+    let printed = replay(&case.journal).printed;
     assert!(mtrrun(case) == printed.as_bytes());
     0
 }

@@ -4,13 +4,13 @@
 //! bytes are read as a recipe: what stands in the journal, with right checks unless the recipe damages
 //! a block. Any bytes are a recipe.
 
-use crate::compare::{
-    both, sound, start, to_library, to_library_record, to_model_entry, to_model_record,
-};
+use crate::bytes;
+use crate::compare::{both, sound, start, to_library, to_library_record, to_model_entry};
 use crate::guard::{Guarded, Side};
+use crate::late::Late;
 use model::accounts::Entry;
 use model::blocks::{check, fields, kind, read_block, write_block, Record, BLOCK, RECORDS};
-use model::calls::recorded;
+use model::calls::{self, record, recorded, Call};
 use model::rule::{Reply, Scheduler};
 use mtr::{numbers, raw};
 use std::fmt::Write;
@@ -54,7 +54,22 @@ impl Bytes<'_> {
             reason: if uses.reason { self.byte() } else { 0 },
             amount: if uses.amount { self.short() } else { 0 },
             ticks: if uses.ticks { self.long() } else { 0 },
+            overrun: if uses.overrun { self.short() } else { 0 },
         }
+    }
+
+    /// The record of a report on a state: a reason, and how many ticks are used beyond the slice and, if it is `late`,
+    /// the overrun limit, −128 to 127.
+    fn report(&mut self, s: &Scheduler, late: bool) -> Record {
+        let slice = match s.threads.get(s.running as usize) {
+            Some(t) => t.slice(&s.settings),
+            None => 0,
+        };
+        let from = slice + if late { s.settings.overrun as u32 } else { 0 };
+        record(Call::Report {
+            reason: self.byte().into(),
+            used: from.saturating_add_signed(self.byte() as i8 as i32).into(),
+        })
     }
 }
 
@@ -94,16 +109,26 @@ const BLOCKS: usize = 24;
 
 /// Item by item: the low half of a byte is a record's kind, followed by the fields that it uses; 0 ends the
 /// block; 9 sets a byte of the block under its check and 10 one after it; 11 cuts the end of the journal
-/// off; others are passed over.
+/// off; 12 and 13 are reports by their distance from the slice and from the most that is accepted, in the state
+/// that the records so far make; others are passed over.
 fn listed(mut bytes: Bytes) -> Vec<u8> {
     let mut journal = Vec::new();
     let mut records = Vec::new();
     let (mut under, mut after) = (Vec::new(), Vec::new());
     let mut cut = 0;
+    let mut s = Scheduler::default();
     while !bytes.0.is_empty() && journal.len() < BLOCKS * BLOCK {
         let kind = bytes.byte() % 16;
+        let record = match kind {
+            kind::OPEN..=kind::START => Some(bytes.record(kind)),
+            12 | 13 => Some(bytes.report(&s, kind == 13)),
+            _ => None,
+        };
+        if let Some(record) = record {
+            calls::run(&mut s, &record);
+            records.push(record);
+        }
         match kind {
-            kind::OPEN..=kind::START => records.push(bytes.record(kind)),
             9 => under.push((bytes.short() as usize % BLOCK, bytes.byte())),
             10 => after.push((bytes.short() as usize % BLOCK, bytes.byte())),
             11 => cut = bytes.short() as usize % BLOCK,
@@ -128,15 +153,22 @@ fn listed(mut bytes: Bytes) -> Vec<u8> {
     journal
 }
 
+/// What a replay printed, and what occurred of overruns in it.
+#[derive(Clone, Debug, Default, PartialEq, Eq)]
+pub struct Replayed {
+    pub printed: String,
+    pub late: Late,
+}
+
 /// Replays a journal by the library's functions and by the model. Each block's reading, each call's answer and state and
-/// the accounts at the end are the same on both sides, and so is all that is printed, which is handed back.
+/// the accounts at the end are the same on both sides, and so is all that is printed.
 ///
 /// # Panics
 ///
 /// Where something differs.
-pub fn replay(journal: &[u8]) -> String {
+pub fn replay(journal: &[u8]) -> Replayed {
     let mut page = Guarded::mapped();
-    let mut printed = String::new();
+    let (mut printed, mut late) = (String::new(), Late::default());
     let mut state = Some(Scheduler::default());
     for (place, area) in journal.chunks(BLOCK).enumerate() {
         match read(&mut page, area, place as u32) {
@@ -146,7 +178,7 @@ pub fn replay(journal: &[u8]) -> String {
             }
             Ok(records) => {
                 for (i, record) in records.iter().enumerate() {
-                    let reply = run(&mut state, record);
+                    let reply = run(&mut state, record, &mut late);
                     let (number, answer) = (RECORDS * place + i, reply.answer);
                     let (thread, slice, before) = (reply.thread, reply.slice, reply.before);
                     let _ = writeln!(printed, "{number} {answer} {thread} {slice} {before}");
@@ -159,7 +191,7 @@ pub fn replay(journal: &[u8]) -> String {
         accounts(state);
     }
     assert_eq!(printed.as_bytes(), model::replay::replay(journal));
-    printed
+    Replayed { printed, late }
 }
 
 /// Reads a block on both sides, from either end of a page that can't be written, and writes what was read.
@@ -170,12 +202,10 @@ fn read(page: &mut Guarded, area: &[u8], place: u32) -> Result<Vec<Record>, u32>
         // SAFETY: the page holds the area.
         let found =
             page.read_only(|| unsafe { raw::mtr_by_value_read_block(at, area.len(), place) });
-        assert_eq!(found.answer, wanted.as_ref().err().copied().unwrap_or(0));
+        let answer = wanted.as_ref().err().copied().unwrap_or(0);
+        assert_eq!(found.answer, answer);
         let records = wanted.as_deref().unwrap_or_default();
-        assert_eq!(found.count as usize, records.len());
-        let (some, rest) = found.records.split_at(records.len());
-        assert!(some.iter().map(to_model_record).eq(records.iter().copied()));
-        assert!(rest.iter().all(|r| *r == raw::Record::default()));
+        assert!(bytes::of(&found) == bytes::found(answer, records));
         assert!(page.contents(side, area.len()) == area && page.intact(side, area.len()));
     }
     if let Ok(records) = &wanted {
@@ -196,21 +226,27 @@ fn read(page: &mut Guarded, area: &[u8], place: u32) -> Result<Vec<Record>, u32>
 }
 
 /// Runs a record on both sides; without a state every record but a start answers 20.
-fn run(state: &mut Option<Scheduler>, r: &Record) -> Reply {
+fn run(state: &mut Option<Scheduler>, r: &Record, late: &mut Late) -> Reply {
     if r.kind == kind::START {
-        return Reply::plain(match start(r.amount as u64, r.ticks as u64) {
-            Ok(fresh) => {
-                *state = Some(fresh);
-                0
-            }
-            Err(refusal) => refusal,
-        });
+        let (m, p, o) = (r.amount as u64, r.ticks as u64, r.overrun as u64);
+        let started = start(m, p, o);
+        let answer = started.err().unwrap_or(0);
+        late.start(m, p, o, answer);
+        if let Ok(fresh) = started {
+            *state = Some(fresh);
+        }
+        return Reply::plain(answer);
     }
     let Some(call) = recorded(r) else {
         panic!("a record of kind {} was read", r.kind);
     };
     match state {
-        Some(s) => both(s, call),
+        Some(s) => {
+            let before = *s;
+            let reply = both(s, call);
+            late.call(&before, call, reply.answer);
+            reply
+        }
         None => Reply::plain(20),
     }
 }

@@ -1,6 +1,8 @@
 //! The static library and `mtrrun` beside the reference model.
 //!
 //! - [`compare`]: a call on both sides, asserted equal.
+//! - [`bytes`]: the bytes that cross the boundary.
+//! - [`late`]: what occurred of overruns.
 //! - [`program`]: `mtrrun`, run as it was built.
 //! - [`attack`]: arbitrary bytes and arguments to every exported function.
 //! - [`guard`]: memory to lend between two pages that nobody may touch.
@@ -12,11 +14,13 @@
 #![deny(unsafe_op_in_unsafe_fn)]
 
 pub mod attack;
+pub mod bytes;
 pub mod compare;
 pub mod faults;
 #[cfg(fuzzing)]
 mod fuzzer;
 pub mod guard;
 pub mod journal;
+pub mod late;
 pub mod program;
 pub mod stack;

@@ -142,7 +142,7 @@ fn one(
     let nothing = (to as *const u8, 0);
     let lent = area.as_mut_ptr() as u64;
     let (value, numbers) = match call {
-        0 => (nothing, [to, 100, 20_000, 0, 0, 0]),
+        0 => (nothing, [to, 100, 20_000, r.range(0, 100), 0, 0]),
         1..=7 => (by_value, step(r, to, call, state)),
         8 => (by_value, [0; 6]),
         9 => (nothing, [r.range(0, 11), 0, 0, 0, 0, 0]),

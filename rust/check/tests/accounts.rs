@@ -1,6 +1,7 @@
 //! Lag, achieved share and the roster.
 
 use check::compare::{both, start, to_library, to_model_entry};
+use check::late::Late;
 use model::accounts::Entry;
 use model::calls::Call;
 use model::random::{call, edge_value, hostile_state, sound_state, Rng};
@@ -11,7 +12,7 @@ use mtr::numbers;
 const MARK: numbers::Entry = numbers::Entry {
     number: 77,
     state: 78,
-    allotment: 79,
+    allotment: -79,
     share: 80,
     lag: -81,
 };
@@ -248,6 +249,7 @@ fn long_runs() {
     let mut r = Rng::new(63);
     // Admissions, wakes, and reports by reason.
     let mut events = [0u64; 6];
+    let mut late = Late::default();
     for run in 0..40 {
         let (m, p) = match run % 4 {
             0 => (100, 20_000),
@@ -255,14 +257,16 @@ fn long_runs() {
             2 => (1_000, 1_000_000),
             _ => (r.range(1, 1_000), r.range(1, 1_000_000)),
         };
-        let mut s = start(m, p).unwrap();
+        let mut s = start(m, p, r.edgy(0, m - 1)).unwrap();
         let mut accounts = [Account::default(); 64];
         for _ in 0..3_000 {
             let c = call(&mut r, &s);
-            let running = s.running;
+            let before = s;
             if both(&mut s, c).answer != 0 {
                 continue;
             }
+            late.call(&before, c, 0);
+            let running = before.running;
             let Some(n) = follow(&mut accounts, c, running) else {
                 continue;
             };
@@ -295,4 +299,5 @@ fn long_runs() {
     }
     println!("admissions, wakes, reports by reason: {events:?}");
     assert!(events.iter().all(|&n| n > 1_000), "{events:?}");
+    assert!(late.overruns() > 1_000, "{late:?}");
 }

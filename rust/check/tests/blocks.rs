@@ -1,5 +1,6 @@
 //! Random writes and reads of event blocks.
 
+use check::bytes;
 use check::compare::{to_library_record, to_model_record};
 use model::blocks::{check, kind, read_block, write_block, Record, BLOCK, RECORD, RECORDS};
 use model::random::Rng;
@@ -8,31 +9,35 @@ use mtr::numbers;
 const WRITES: usize = 300_000;
 const READS: usize = 300_000;
 
-/// Which of subject, group, reason, amount and ticks a kind uses.
-fn used(kind: u8) -> [bool; 5] {
+/// Fields of a record beside its kind: subject, group, reason, amount, ticks and overrun.
+const FIELDS: usize = 6;
+
+/// Which of them a kind uses.
+fn used(kind: u8) -> [bool; FIELDS] {
     match kind {
-        kind::OPEN | kind::ADMIT => [true, true, false, true, false],
-        kind::CLOSE | kind::REMOVE | kind::WAKE => [true, false, false, false, false],
-        kind::REPORT => [false, false, true, false, true],
-        kind::START => [false, false, false, true, true],
-        _ => [false; 5],
+        kind::OPEN | kind::ADMIT => [true, true, false, true, false, false],
+        kind::CLOSE | kind::REMOVE | kind::WAKE => [true, false, false, false, false, false],
+        kind::REPORT => [false, false, true, false, true, false],
+        kind::START => [false, false, false, true, true, true],
+        _ => [false; FIELDS],
     }
 }
 
-/// Largest values of the five fields.
-const LARGEST: [u64; 5] = [255, 255, 255, 65_535, u32::MAX as u64];
+/// Their largest values.
+const LARGEST: [u64; FIELDS] = [255, 255, 255, 65_535, u32::MAX as u64, 65_535];
 
-fn fields(record: &Record) -> [u64; 5] {
+fn fields(record: &Record) -> [u64; FIELDS] {
     [
         record.subject as u64,
         record.group as u64,
         record.reason as u64,
         record.amount as u64,
         record.ticks as u64,
+        record.overrun as u64,
     ]
 }
 
-fn record_of(kind: u8, fields: [u64; 5]) -> Record {
+fn record_of(kind: u8, fields: [u64; FIELDS]) -> Record {
     Record {
         kind,
         subject: fields[0] as u8,
@@ -40,6 +45,7 @@ fn record_of(kind: u8, fields: [u64; 5]) -> Record {
         reason: fields[2] as u8,
         amount: fields[3] as u16,
         ticks: fields[4] as u32,
+        overrun: fields[5] as u16,
     }
 }
 
@@ -65,7 +71,7 @@ fn class(value: u64, largest: u64) -> usize {
 
 fn well_formed(r: &mut Rng) -> Record {
     let kind = r.range(1, 8) as u8;
-    let mut values = [0; 5];
+    let mut values = [0; FIELDS];
     for (i, &used) in used(kind).iter().enumerate() {
         if used {
             values[i] = value(r, LARGEST[i]);
@@ -81,7 +87,7 @@ fn formless(r: &mut Rng) -> Record {
         0 => record.kind = r.pick(&[0, 9, 10, 16, 128, 255]),
         1 => record.kind = r.bits() as u8,
         2 => {
-            let mut values = [0; 5];
+            let mut values = [0; FIELDS];
             for (value, largest) in values.iter_mut().zip(LARGEST) {
                 *value = r.range(0, largest);
             }
@@ -89,7 +95,7 @@ fn formless(r: &mut Rng) -> Record {
         }
         _ => {
             let mut values = fields(&record);
-            let i = r.below(5) as usize;
+            let i = r.below(FIELDS as u64) as usize;
             values[i] = value(r, LARGEST[i]);
             record = record_of(record.kind, values);
         }
@@ -136,6 +142,7 @@ fn read(area: &[u8], number: u32) -> Result<Vec<Record>, u32> {
         Err(refusal) => (*refusal, &[][..]),
     };
     assert_eq!(found.answer, answer, "block {number} in {area:?}");
+    assert!(bytes::of(&found) == bytes::found(answer, list));
     assert_eq!(found.count as usize, list.len());
     let (some, rest) = found.records.split_at(list.len());
     assert!(some.iter().map(to_model_record).eq(list.iter().copied()));
@@ -160,9 +167,9 @@ struct Seen {
     counts: [u64; 41],
     lengths: [u64; 601],
     /// Fields of accepted records by kind, field and class.
-    accepted: [[[u64; 4]; 5]; 9],
+    accepted: [[[u64; 4]; FIELDS]; 9],
     /// Unused fields that alone kept a record from having a form.
-    refused: [[[u64; 4]; 5]; 9],
+    refused: [[[u64; 4]; FIELDS]; 9],
     /// Kinds of records that their kind alone kept from having a form.
     kinds: [u64; 256],
 }
@@ -188,7 +195,9 @@ impl Seen {
             return;
         }
         let used = used(record.kind);
-        let set: Vec<usize> = (0..5).filter(|&i| !used[i] && values[i] != 0).collect();
+        let set: Vec<usize> = (0..FIELDS)
+            .filter(|&i| !used[i] && values[i] != 0)
+            .collect();
         if let [i] = set[..] {
             self.refused[record.kind as usize][i][class(values[i], LARGEST[i])] += 1;
         }
@@ -222,8 +231,8 @@ fn writes_and_reads() {
         answers: [0; 20],
         counts: [0; 41],
         lengths: [0; 601],
-        accepted: [[[0; 4]; 5]; 9],
-        refused: [[[0; 4]; 5]; 9],
+        accepted: [[[0; 4]; FIELDS]; 9],
+        refused: [[[0; 4]; FIELDS]; 9],
         kinds: [0; 256],
     };
     let mut reads = [0u64; 20];
@@ -383,6 +392,7 @@ fn in_a_used_field(place: usize, list: &[Record]) -> bool {
         3 => used[2],
         4 | 5 => used[3],
         6..=9 => used[4],
+        10 | 11 => used[5],
         _ => false,
     }
 }
@@ -439,7 +449,7 @@ fn edges() {
     assert_eq!(read(&[], 0), Err(17));
     assert_eq!(write(&mut [], 0, &[]), 17);
 
-    let dispatch = record_of(kind::DISPATCH, [0; 5]);
+    let dispatch = record_of(kind::DISPATCH, [0; FIELDS]);
     assert_eq!(write(&mut area, u32::MAX, &[dispatch; 31]), 0);
     assert_eq!(read(&area, u32::MAX), Ok(vec![dispatch; 31]));
     for count in 32..=40 {

@@ -1,6 +1,7 @@
 //! A million random calls, the states that no call accepts, and the edges.
 
 use check::compare::{both, kind, library, sound, start, to_library, Tally, KINDS};
+use check::late::Late;
 use model::accounts::Entry;
 use model::calls::Call;
 use model::random::{broken_states, call, edge_value, hostile_state, sound_state, Rng};
@@ -36,7 +37,7 @@ fn from_sound_states() {
         last += (s.meter >= METER_LIMIT - 1_000) as u32;
         for _ in 0..15 {
             let c = call(&mut r, &s);
-            tally.add(c, both(&mut s, c));
+            tally.both(&mut s, c);
         }
         assert!(sound(&s));
     }
@@ -46,7 +47,18 @@ fn from_sound_states() {
         assert_eq!(tally.seen(k, 100), ANSWERS[k], "{name}");
     }
     assert!(tally.idle > 1_000);
+    assert!(tally.late.all_reports(20), "{:?}", tally.late);
     assert!(running > 1_000 && full > 1_000 && last > 1_000);
+}
+
+/// An overrun limit for m: mostly an allowed one, m itself or any.
+fn limit(r: &mut Rng, m: u64) -> u64 {
+    match r.below(8) {
+        0 => edge_value(r),
+        1 => m,
+        2 => 0,
+        _ => r.edgy(0, m.saturating_sub(1)),
+    }
 }
 
 #[test]
@@ -61,13 +73,15 @@ fn from_the_start_state() {
             2 => (r.edgy(0, 1_001), r.edgy(0, 1_000_001)),
             _ => (r.edgy(1, 1_000), r.edgy(1, 1_000_000)),
         };
-        let started = start(m, p);
+        let o = limit(&mut r, m);
+        let started = start(m, p, o);
+        tally.late.start(m, p, o, started.err().unwrap_or(0));
         starts[started.is_err() as usize] += 1;
         let Ok(mut s) = started else { continue };
         // At the start the list is empty; long runs fill and empty it.
         for _ in 0..r.edgy(0, 4_000) {
             let c = call(&mut r, &s);
-            tally.add(c, both(&mut s, c));
+            tally.both(&mut s, c);
         }
         assert!(sound(&s));
     }
@@ -82,12 +96,14 @@ fn from_the_start_state() {
     }
     assert!(tally.idle > 20);
     assert!(starts.iter().all(|&n| n > 20));
+    let late = tally.late;
+    assert!(late.all_reports(5) && late.all_starts(5), "{late:?}");
 }
 
 #[test]
 fn start_on_every_kind_of_argument() {
     let mut r = Rng::new(33);
-    let mut starts = [0u64; 2];
+    let (mut starts, mut late) = ([0u64; 2], Late::default());
     for _ in 0..50_000 {
         let value = |r: &mut Rng, top: u64| match r.below(3) {
             0 => edge_value(r),
@@ -95,11 +111,15 @@ fn start_on_every_kind_of_argument() {
             _ => r.edgy(1, top),
         };
         let (m, p) = (value(&mut r, 1_000), value(&mut r, 1_000_000));
-        let fits = (1..=1_000).contains(&m) && (1..=1_000_000).contains(&p);
-        assert_eq!(start(m, p).is_ok(), fits);
+        let o = limit(&mut r, m);
+        let fits = (1..=1_000).contains(&m) && (1..=1_000_000).contains(&p) && o < m;
+        let started = start(m, p, o);
+        assert_eq!(started.is_ok(), fits);
+        late.start(m, p, o, started.err().unwrap_or(0));
         starts[!fits as usize] += 1;
     }
     assert!(starts.iter().all(|&n| n > 1_000), "{starts:?}");
+    assert!(late.all_starts(100), "{late:?}");
 }
 
 #[test]
@@ -113,9 +133,8 @@ fn from_hostile_states() {
         verdicts[is_sound as usize] += 1;
         for _ in 0..2 {
             let c = call(&mut r, &s);
-            let reply = both(&mut s, c);
+            let reply = tally.both(&mut s, c);
             assert_eq!(reply.answer == 16, !is_sound);
-            tally.add(c, reply);
         }
     }
     tally.print();
@@ -209,7 +228,7 @@ fn dispatched(thread: u32, slice: u32, before: u32) -> Reply {
 
 #[test]
 fn edges() {
-    let fresh = start(100, 20_000).unwrap();
+    let fresh = start(100, 20_000, 0).unwrap();
     assert_eq!(fresh, Scheduler::default());
     assert!(sound(&fresh));
 
@@ -219,14 +238,14 @@ fn edges() {
     assert_eq!(admit(&mut other, 1, 0, 400), 0);
     assert_eq!(admit(&mut s, 1, 0, 401), 5);
 
-    assert!(start(100, 1_000_000).is_ok());
-    assert_eq!(start(100, 1_000_001), Err(1));
-    assert!(start(1_000, 1).is_ok());
-    assert_eq!(start(1_001, 1), Err(1));
-    assert_eq!(start(0, 1), Err(1));
-    assert_eq!(start(1, 0), Err(1));
-    assert_eq!(start(1 << 32 | 1, 1), Err(1));
-    assert_eq!(start(1, 1 << 32 | 1), Err(1));
+    assert!(start(100, 1_000_000, 0).is_ok());
+    assert_eq!(start(100, 1_000_001, 0), Err(1));
+    assert!(start(1_000, 1, 0).is_ok());
+    assert_eq!(start(1_001, 1, 0), Err(1));
+    assert_eq!(start(0, 1, 0), Err(1));
+    assert_eq!(start(1, 0, 0), Err(1));
+    assert_eq!(start(1 << 32 | 1, 1, 0), Err(1));
+    assert_eq!(start(1, 1 << 32 | 1, 0), Err(1));
 
     let mut s = fresh;
     assert_eq!(admit(&mut s, 63, 0, 1), 0);
@@ -240,16 +259,16 @@ fn edges() {
     assert_eq!(both(&mut s, Call::Dispatch), dispatched(64, 0, 0));
 
     // The meter: the last dispatch, the largest report, none after it.
-    let mut s = start(1_000, 1_000_000).unwrap();
+    let mut s = start(1_000, 1_000_000, 999).unwrap();
     assert_eq!(admit(&mut s, 9, 0, 1_000), 0);
     s.meter = METER_LIMIT;
     assert_eq!(both(&mut s, Call::Dispatch).answer, 15);
     s.meter = METER_LIMIT - 1;
     assert_eq!(both(&mut s, Call::Dispatch), dispatched(9, 1_000_000, 0));
     assert_eq!(report(&mut s, 4, u64::MAX), 14);
-    assert_eq!(report(&mut s, 0, 1_000_001), 13);
+    assert_eq!(report(&mut s, 0, 1_001_000), 13);
     assert_eq!(report(&mut s, 0, 1 << 32), 13);
-    assert_eq!(report(&mut s, 0, 1_000_000), 0);
+    assert_eq!(report(&mut s, 0, 1_000_999), 0);
     assert_eq!(s.meter, METER_MAX - 1);
     assert_eq!(both(&mut s, Call::Dispatch).answer, 15);
     assert_eq!(report(&mut s, 9, 9), 11);
@@ -278,7 +297,7 @@ fn edges() {
 /// The worked example of RULE 10: answers, lags, roster and shares.
 #[test]
 fn listing() {
-    let mut s = start(100, 20_000).unwrap();
+    let mut s = start(100, 20_000, 0).unwrap();
     assert_eq!(admit(&mut s, 5, 0, 500), 0);
     assert_eq!(admit(&mut s, 7, 0, 100), 0);
     assert_eq!(both(&mut s, Call::Dispatch), dispatched(5, 20_000, 0));

@@ -1,7 +1,8 @@
 //! What the fuzzer began with and what it has learnt, run again: the library's functions, `mtrrun` and the model
 //! agree on each case.
 
-use check::journal::{case, replay};
+use check::journal::{self, case};
+use check::late::Late;
 use check::program::{printed, root};
 use std::path::Path;
 use std::process::Command;
@@ -35,12 +36,14 @@ fn the_corpus() {
     let recipes = recipes();
     let mut answers = [0u32; 21];
     let mut refused = [0u32; 21];
+    let mut late = Late::default();
     for (place, recipe) in &recipes {
         let case = case(recipe);
-        let wanted = replay(&case.journal);
+        let wanted = journal::replay(&case.journal);
         let found = printed(&case.journal, &case.pieces);
-        assert!(found == wanted.as_bytes(), "{place}");
-        for line in wanted.lines() {
+        assert!(found == wanted.printed.as_bytes(), "{place}");
+        late.join(&wanted.late);
+        for line in wanted.printed.lines() {
             let words: Vec<&str> = line.split(' ').collect();
             match words[..] {
                 ["block", _, refusal] => refused[refusal.parse::<usize>().unwrap()] += 1,
@@ -53,6 +56,14 @@ fn the_corpus() {
     let seen = |counts: [u32; 21]| -> Vec<usize> { (0..21).filter(|&a| counts[a] > 0).collect() };
     assert_eq!(seen(answers), (0..=14).chain([20]).collect::<Vec<_>>());
     assert_eq!(seen(refused), [17, 18, 19]);
+    // Overruns with something left, nothing left and a debt, each by tick, block, yield and exit; 13 at one tick too many; O = m.
+    println!("{late:?}");
+    assert!(late.all_reports(1) && late.all_starts(1), "{late:?}");
+}
+
+/// What a journal prints.
+fn replay(journal: &[u8]) -> String {
+    journal::replay(journal).printed
 }
 
 /// Any bytes are a recipe, and the forms give what they are described to give.
@@ -80,6 +91,24 @@ fn recipes_by_hand() {
         replay(&case(&list).journal),
         "block 0 19\nblock 1 18\nblock 2 17\n"
     );
+    // A start of 10, 1000 and 9, a thread of 10, a report of 10 and one of 9 beyond the slice, and one of 4 beyond the next.
+    let list = [
+        2, 0, 0, 8, 10, 0, 0xe8, 3, 0, 0, 9, 0, 3, 1, 0, 10, 0, 6, 12, 0, 10, 13, 0, 0, 6, 12, 2,
+        4, 6,
+    ];
+    let late = journal::replay(&case(&list).journal);
+    let slices = ["2 0 1 100 0", "5 0 1 91 0", "7 0 1 96 0"];
+    let found: Vec<&str> = late.printed.lines().filter(|l| l.contains(" 1 ")).collect();
+    assert_eq!(found, slices);
+    assert_eq!(late.printed.lines().nth(3), Some("3 13 0 0 0"));
+    let wanted = Late {
+        debt: [1, 0, 1, 0],
+        last: 1,
+        beyond: 1,
+        most: 1,
+        ..Late::default()
+    };
+    assert_eq!(late.late, wanted);
 }
 
 /// The part that only the fuzzer's build has compiles, without a warning.

@@ -50,6 +50,13 @@ impl Nearest {
     }
 }
 
+/// The least of each sum over the states where a stretch can begin: of [`Stretches::owed`] by first thread, and of
+/// [`Stretches::ahead`] by first and second.
+struct Least {
+    owed: [i64; 64],
+    ahead: Box<[[i64; 64]; 64]>,
+}
+
 /// Both limits over every stretch that ends at the newest report. Each state
 /// on the way is sound, so a stretch may begin at any of them.
 struct Stretches {
@@ -59,70 +66,131 @@ struct Stretches {
     /// Ticks of all accepted reports, and those that count for each thread.
     work: i64,
     had: [i64; 64],
+    /// Those of them beyond the slice.
+    overruns: i64,
+    over: [i64; 64],
     /// The thread that the next accepted report counts for.
     named: u32,
     /// Whether a stretch up to now can have the thread as first: runnable since
     /// some state without a yield; and as second: admitted since.
     first: [bool; 64],
     second: [bool; 64],
-    /// Least f × W − 1000 × S over the states where such a stretch can begin,
-    /// and least f × S2 − g × S for a first and a second thread.
-    low: [i64; 64],
-    pair: Box<[[i64; 64]; 64]>,
-    /// The first limit and the second.
-    nearest: [Nearest; 2],
+    /// By the overruns that are allowed for.
+    least: [Least; 3],
+    totals: Totals,
 }
+
+/// What was found over many stretches: of the first limit and of the second.
+#[derive(Clone, Copy, Default)]
+struct Totals {
+    nearest: [Nearest; 2],
+    /// Checks in which more is owed than the limit where its last term, f × V or f × V2, is left out, and where it
+    /// has the first thread's overruns in place of the others' or the second's.
+    exceeded: [[u64; 2]; 2],
+    /// Checks right after an overrun of another thread and after one of the first thread's own.
+    others: u64,
+    own: u64,
+}
+
+impl Totals {
+    /// One check of a limit, and what would be owed by the wrong ones.
+    fn add(&mut self, k: usize, limit: Nearest, wrong: [i64; 2]) {
+        for (count, owed) in self.exceeded[k].iter_mut().zip(wrong) {
+            *count += (owed > limit.allowed) as u64;
+        }
+        self.nearest[k].add(limit);
+    }
+
+    fn join(&mut self, other: &Totals) {
+        for k in 0..2 {
+            self.nearest[k].join(&other.nearest[k]);
+            self.exceeded[k][0] += other.exceeded[k][0];
+            self.exceeded[k][1] += other.exceeded[k][1];
+        }
+        self.others += other.others;
+        self.own += other.own;
+    }
+}
+
+/// The overruns that a limit allows for: the others' or the second's as it is, or none, or the first thread's own.
+#[derive(Clone, Copy, PartialEq, Eq)]
+enum Allowed {
+    Theirs,
+    None,
+    Own,
+}
+
+const ALLOWED: [Allowed; 3] = [Allowed::Theirs, Allowed::None, Allowed::Own];
 
 impl Stretches {
     fn new(s: &Scheduler) -> Stretches {
+        let none = || Least {
+            owed: [0; 64],
+            ahead: Box::new([[0; 64]; 64]),
+        };
         Stretches {
             m: s.settings.thousandth as i64,
             p: s.settings.interval as i64,
             reservation: s.threads.map(|t| t.reservation as i64),
             work: 0,
             had: [0; 64],
+            overruns: 0,
+            over: [0; 64],
             named: s.running,
             first: s.threads.map(|t| t.status == RUNNABLE),
             second: s.threads.map(|t| t.status != 0),
-            low: [0; 64],
-            pair: Box::new([[0; 64]; 64]),
-            nearest: [Nearest::default(); 2],
+            least: [none(), none(), none()],
+            totals: Totals::default(),
         }
     }
 
-    /// f × W − 1000 × S.
-    fn owed(&self, a: usize) -> i64 {
-        self.reservation[a] * self.work - 1000 * self.had[a]
+    /// f × (W − V) − 1000 × S.
+    fn owed(&self, a: usize, allowed: Allowed) -> i64 {
+        let overruns = match allowed {
+            Allowed::Theirs => self.overruns - self.over[a],
+            Allowed::None => 0,
+            Allowed::Own => self.over[a],
+        };
+        self.reservation[a] * (self.work - overruns) - 1000 * self.had[a]
     }
 
-    /// f × S2 − g × S.
-    fn ahead(&self, a: usize, b: usize) -> i64 {
-        self.reservation[a] * self.had[b] - self.reservation[b] * self.had[a]
+    /// f × (S2 − V2) − g × S.
+    fn ahead(&self, a: usize, b: usize, allowed: Allowed) -> i64 {
+        let overruns = match allowed {
+            Allowed::Theirs => self.over[b],
+            Allowed::None => 0,
+            Allowed::Own => self.over[a],
+        };
+        self.reservation[a] * (self.had[b] - overruns) - self.reservation[b] * self.had[a]
     }
 
     /// A stretch with the thread as first can begin here.
     fn begin_first(&mut self, a: usize) {
         self.first[a] = true;
-        self.low[a] = self.owed(a);
-        for b in 0..64 {
-            self.pair[a][b] = self.ahead(a, b);
+        for (k, allowed) in ALLOWED.into_iter().enumerate() {
+            self.least[k].owed[a] = self.owed(a, allowed);
+            for b in 0..64 {
+                self.least[k].ahead[a][b] = self.ahead(a, b, allowed);
+            }
         }
     }
 
     /// A stretch with the thread as second can begin here.
     fn begin_second(&mut self, b: usize) {
         self.second[b] = true;
-        for a in 0..64 {
-            self.pair[a][b] = self.ahead(a, b);
+        for (k, allowed) in ALLOWED.into_iter().enumerate() {
+            for a in 0..64 {
+                self.least[k].ahead[a][b] = self.ahead(a, b, allowed);
+            }
         }
     }
 
-    /// Follows an accepted call; `s` is the state after it.
-    fn follow(&mut self, s: &Scheduler, call: Call, reply: Reply) {
+    /// Follows an accepted call between two states.
+    fn follow(&mut self, before: &Scheduler, call: Call, reply: Reply, after: &Scheduler) {
         match call {
             Call::Admit { number, .. } => {
                 let n = number as usize;
-                self.reservation[n] = s.threads[n].reservation as i64;
+                self.reservation[n] = after.threads[n].reservation as i64;
                 self.begin_first(n);
                 self.begin_second(n);
             }
@@ -132,28 +200,41 @@ impl Stretches {
             }
             Call::Wake { number } => self.begin_first(number as usize),
             Call::Dispatch => self.named = reply.thread,
-            Call::Report { reason, used } => self.report(reason, used as i64),
+            Call::Report { reason, used } => {
+                // The slice that the thread had, from the state alone.
+                let t = &before.threads[self.named as usize];
+                let slice = (t.allotment as i64).min(self.p);
+                self.report(reason, used as i64, (used as i64 - slice).max(0));
+            }
             Call::Open { .. } | Call::Close { .. } => {}
         }
     }
 
-    fn report(&mut self, reason: u64, used: i64) {
+    fn report(&mut self, reason: u64, used: i64, overrun: i64) {
         let n = self.named as usize;
         self.work += used;
         self.had[n] += used;
+        self.overruns += overrun;
+        self.over[n] += overrun;
         // The stretches that end with this report.
         self.first[n] &= reason == 0;
         self.second[n] &= reason != 3;
         for a in 0..64 {
             if self.first[a] {
                 self.check(a, n);
+                self.totals.others += (overrun > 0 && a != n) as u64;
+                self.totals.own += (overrun > 0 && a == n) as u64;
             }
         }
-        // Those that begin after it.
+        // Those that begin after it. A report of another thread makes no sum of the first thread's smaller.
         if self.first[n] {
-            self.low[n] = self.low[n].min(self.owed(n));
-            for b in 0..64 {
-                self.pair[n][b] = self.pair[n][b].min(self.ahead(n, b));
+            for (k, allowed) in ALLOWED.into_iter().enumerate() {
+                let owed = self.owed(n, allowed);
+                self.least[k].owed[n] = self.least[k].owed[n].min(owed);
+                for b in 0..64 {
+                    let ahead = self.ahead(n, b, allowed);
+                    self.least[k].ahead[n][b] = self.least[k].ahead[n][b].min(ahead);
+                }
             }
         }
         if reason == 2 {
@@ -164,79 +245,92 @@ impl Stretches {
     /// Both limits for a first thread after a report of thread `n`.
     fn check(&mut self, a: usize, n: usize) {
         let (m, p, f) = (self.m, self.p, self.reservation[a]);
-        self.nearest[0].add(Nearest {
-            owed: self.owed(a) - self.low[a],
+        let [theirs, none, own] =
+            [0, 1, 2].map(|k| self.owed(a, ALLOWED[k]) - self.least[k].owed[a]);
+        let mut limit = Nearest {
+            owed: theirs,
             allowed: 2 * f * (1000 - f) * m + f * p,
             f,
             g: 0,
             m,
             p,
             checks: 1,
-        });
+        };
+        self.totals.add(0, limit, [none, own]);
         if self.second[n] && a != n {
-            let g = self.reservation[n];
-            self.nearest[1].add(Nearest {
-                owed: self.ahead(a, n) - self.pair[a][n],
-                allowed: 2 * f * g * m,
-                f,
-                g,
-                m,
-                p,
-                checks: 1,
-            });
+            let [theirs, none, own] =
+                [0, 1, 2].map(|k| self.ahead(a, n, ALLOWED[k]) - self.least[k].ahead[a][n]);
+            limit.g = self.reservation[n];
+            limit.owed = theirs;
+            limit.allowed = 2 * f * limit.g * m;
+            self.totals.add(1, limit, [none, own]);
         }
     }
 }
 
 /// Prints the tightest case of each limit past the test harness, which keeps
 /// back what a passed test prints.
-fn say(name: &str, nearest: &[Nearest; 2]) {
+fn say(name: &str, totals: &Totals) {
     let mut lines = String::new();
-    for (limit, n) in ["first", "second"].iter().zip(nearest) {
+    for (k, limit) in ["first", "second"].iter().enumerate() {
+        let n = totals.nearest[k];
         lines += &format!(
-            "{name}: {limit} limit: {} of {} ({:.6}) with f {} g {} m {} P {}, tightest of {} checks\n",
-            n.owed, n.allowed, n.part(), n.f, n.g, n.m, n.p, n.checks
+            "{name}: {limit} limit: {} of {} ({:.6}) with f {} g {} m {} P {}, tightest of {} checks; exceeded without overruns and with its own in {:?}\n",
+            n.owed, n.allowed, n.part(), n.f, n.g, n.m, n.p, n.checks, totals.exceeded[k]
         );
     }
+    let Totals { others, own, .. } = totals;
+    lines += &format!("{name}: {others} checks after an overrun of another, {own} after its own\n");
     let _ = std::io::stderr().write_all(lines.as_bytes());
 }
 
 fn step(s: &mut Scheduler, stretches: &mut Stretches, call: Call) -> Reply {
+    let before = *s;
     let reply = both(s, call);
     if reply.answer == 0 {
-        stretches.follow(s, call, reply);
+        stretches.follow(&before, call, reply, s);
     }
     reply
+}
+
+fn admit(number: u64, reservation: u64) -> Call {
+    Call::Admit {
+        number,
+        group: 0,
+        reservation,
+    }
 }
 
 const READOUT: u64 = 1;
 const EXPORTER: u64 = 2;
 
+/// From this style of a storm on timers fire late.
+const LATE: u64 = 7;
+
 /// Readout holds 500 and never blocks. The exporter blocks in every run and is
 /// woken at every dispatch, before it or after it. Readout's bound holds at
 /// every report, over every stretch that ends there, and the library's lag is
 /// what it is owed.
-fn storm(r: &mut Rng, exporter: u64, others: u64, style: u64, nearest: &mut [Nearest; 2]) {
-    let (m, p) = match style % 3 {
-        0 => (100, 20_000),
-        1 => (1, 7),
-        _ => (r.range(1, 100), r.range(1_000, 1_000_000)),
+fn storm(r: &mut Rng, exporter: u64, others: u64, style: u64, totals: &mut Totals) {
+    let (m, p) = match style {
+        0 | 3 | 6 | 7 => (100, 20_000),
+        1 | 4 => (1, 7),
+        8 => (10, 50),
+        _ => (r.range(2, 100), r.range(1_000, 1_000_000)),
     };
-    let mut s = start(m, p).unwrap();
+    let o = if style < LATE { 0 } else { r.edgy(1, m - 1) };
+    let mut s = start(m, p, o).unwrap();
     for (number, reservation) in [(READOUT, 500), (EXPORTER, exporter)]
         .into_iter()
         .chain((0..others).map(|n| (10 + n, (500 - exporter) / others)))
     {
-        let c = Call::Admit {
-            number,
-            group: 0,
-            reservation,
-        };
-        assert_eq!(both(&mut s, c).answer, 0);
+        assert_eq!(both(&mut s, admit(number, reservation)).answer, 0);
     }
     let mut stretches = Stretches::new(&s);
     let wake = Call::Wake { number: EXPORTER };
     let (mut work, mut had, mut runs) = (0, 0, 0);
+    // Ticks beyond the slice: of the others, and readout's own.
+    let mut over = [0, 0];
     for _ in 0..8_000 {
         let asleep = s.threads[EXPORTER as usize].status == BLOCKED;
         let late = r.chance(1, 2);
@@ -250,8 +344,9 @@ fn storm(r: &mut Rng, exporter: u64, others: u64, style: u64, nearest: &mut [Nea
             assert_eq!(step(&mut s, &mut stretches, wake).answer, 0);
         }
         let slice = reply.slice as u64;
+        let most = slice + r.edgy(0, o);
         let (reason, used) = match thread {
-            READOUT => (0, if style < 3 { slice } else { r.edgy(1, slice) }),
+            READOUT => (0, if style < 3 { slice } else { r.edgy(1, most) }),
             EXPORTER => {
                 runs += 1;
                 let used = match style {
@@ -259,58 +354,71 @@ fn storm(r: &mut Rng, exporter: u64, others: u64, style: u64, nearest: &mut [Nea
                     3 => 0,
                     4 => 1,
                     5 => slice - 1,
-                    _ => r.edgy(0, slice),
+                    6 => r.edgy(0, slice),
+                    _ => most,
                 };
                 (1, used)
             }
-            _ => (r.pick(&[0, 0, 2]), slice),
+            _ => (r.pick(&[0, 0, 2]), most),
         };
         let c = Call::Report { reason, used };
         assert_eq!(step(&mut s, &mut stretches, c).answer, 0);
         work += used as i64;
         had += if thread == READOUT { used as i64 } else { 0 };
+        over[(thread == READOUT) as usize] += used.saturating_sub(slice) as i64;
         let owed = 500 * work - 1000 * had;
         let (m, p) = (m as i64, p as i64);
-        assert!(owed <= 2 * 500 * 500 * m + 500 * p);
+        assert!(owed <= 2 * 500 * 500 * m + 500 * p + 500 * over[0]);
         assert_eq!(numbers::lag(to_library(&s), READOUT).result(), Ok(owed));
     }
     assert!(runs > 20 && had > 0, "{runs} runs of the exporter");
-    nearest[0].join(&stretches.nearest[0]);
-    nearest[1].join(&stretches.nearest[1]);
+    assert_eq!(over.iter().all(|&ticks| ticks > 0), style >= LATE);
+    totals.join(&stretches.totals);
 }
 
 #[test]
 fn wake_storm() {
     let mut r = Rng::new(41);
-    let mut nearest = [Nearest::default(); 2];
-    for style in 0..7 {
+    let mut totals = Totals::default();
+    for style in 0..10 {
         for (exporter, others) in [(500, 0), (1, 1), (100, 4), (499, 1), (250, 50)] {
-            storm(&mut r, exporter, others, style, &mut nearest);
+            storm(&mut r, exporter, others, style, &mut totals);
         }
     }
-    say("wake storm", &nearest);
+    say("wake storm", &totals);
+    assert!(totals.others > 100_000 && totals.own > 10_000);
 }
 
-/// A call that starves the target: the others use whole slices, the target as
-/// little as it can, and whoever is blocked wakes.
-fn starving_call(r: &mut Rng, s: &Scheduler, target: usize) -> Call {
+/// A call that starves the target: the others use whole slices and what is
+/// accepted beyond, the target mostly as little as it can, and whoever is
+/// blocked wakes. Where they `leave` they do so in debt, which goes with them,
+/// and come back.
+fn starving_call(r: &mut Rng, s: &Scheduler, target: usize, leave: bool) -> Call {
     let blocked = |n: &usize| s.threads[*n].status == BLOCKED;
     if let (true, Some(n)) = (r.chance(1, 2), (0..64).find(blocked)) {
         return Call::Wake { number: n as u64 };
     }
     let Some(t) = s.threads.get(s.running as usize) else {
-        return Call::Dispatch;
+        let free = |n: &usize| s.threads[*n].status == 0;
+        let room = 1000 - s.taken(0) as u64;
+        return match (0..64).find(free) {
+            Some(n) if leave && room > 0 => admit(n as u64, room),
+            _ => Call::Dispatch,
+        };
     };
-    let slice = t.allotment.min(s.settings.interval) as u64;
-    let used = if s.running as usize == target {
-        r.pick(&[1, 1, slice])
-    } else {
-        slice
-    };
-    Call::Report { reason: 0, used }
+    let slice = t.slice(&s.settings) as u64;
+    let most = slice + s.settings.overrun as u64;
+    if s.running as usize == target {
+        let used = r.pick(&[1, 1, 1, slice, most]);
+        return Call::Report { reason: 0, used };
+    }
+    let used = r.pick(&[most, most, most, slice]);
+    let reason = if leave && r.chance(1, 2) { 3 } else { 0 };
+    Call::Report { reason, used }
 }
 
-/// A call that rarely ends a premise: threads mostly stay and use whole slices.
+/// A call that rarely ends a premise: threads mostly stay and use whole slices,
+/// at times all that is accepted.
 fn sparing_call(r: &mut Rng, s: &Scheduler) -> Call {
     let call = call(r, s);
     let ends = match call {
@@ -325,31 +433,58 @@ fn sparing_call(r: &mut Rng, s: &Scheduler) -> Call {
         None => Call::Dispatch,
         Some(t) => Call::Report {
             reason: 0,
-            used: t.allotment.min(s.settings.interval) as u64,
+            used: t.slice(&s.settings) as u64 + r.pick(&[0, s.settings.overrun as u64]),
         },
     }
+}
+
+/// A state in which all is reserved, and its first thread: the others full and mostly before it, and mostly little
+/// left to it. No interval is longer than needed: its part of the first limit is small then.
+fn crowded(r: &mut Rng) -> (Scheduler, usize) {
+    let m = r.edgy(1, 1_000);
+    let others = r.range(1, 40);
+    let mut rest = 1000 - r.edgy(1, 1000 - others);
+    let first = r.range(0, others);
+    let mut s = start(m, 1_000_000, r.edgy(0, m - 1)).unwrap();
+    assert_eq!(both(&mut s, admit(63, 1000 - rest)).answer, 0);
+    let mut longest = 1;
+    for n in 0..others {
+        let least = others - n - 1;
+        let part = if least == 0 {
+            rest
+        } else {
+            r.range(1, rest - least)
+        };
+        rest -= part;
+        longest = longest.max(part);
+        assert_eq!(both(&mut s, admit(n, part)).answer, 0);
+    }
+    s.order[..=first as usize].rotate_left(1);
+    s.settings.interval = (longest * m) as u32;
+    let quantum = s.threads[63].allotment as u64;
+    s.threads[63].allotment = r.edgy(1, quantum) as i32;
+    (s, 63)
 }
 
 #[test]
 fn random_stretches() {
     let mut r = Rng::new(42);
-    let mut nearest = [Nearest::default(); 2];
-    for round in 0..6_000 {
+    let mut totals = Totals::default();
+    for round in 0..8_000 {
         let mut s = sound_state(&mut r);
-        let starve = round % 3 == 2;
-        if starve && r.chance(1, 2) {
-            // No longer than needed: its part of the first limit is small then.
-            let most = s.threads.iter().filter(|t| t.status != 0);
-            let most = most.map(|t| t.reservation as u32).max().unwrap_or(1);
-            s.settings.interval = most * s.settings.thousandth;
+        let mut target =
+            r.pick(&s.list().iter().chain(&[0]).copied().collect::<Vec<u8>>()) as usize;
+        let starve = round % 4 > 1;
+        if round % 4 == 3 {
+            (s, target) = crowded(&mut r);
         }
+        let leave = starve && r.chance(1, 2);
         let mut stretches = Stretches::new(&s);
-        let target = r.pick(&s.list().iter().chain(&[0]).copied().collect::<Vec<u8>>());
         for _ in 0..if starve { 400 } else { 150 } {
-            let c = match round % 3 {
+            let c = match round % 4 {
                 0 => call(&mut r, &s),
                 1 => sparing_call(&mut r, &s),
-                _ => starving_call(&mut r, &s, target as usize),
+                _ => starving_call(&mut r, &s, target, leave),
             };
             let (named, running) = (stretches.named, s.running);
             let reply = step(&mut s, &mut stretches, c);
@@ -357,9 +492,65 @@ fn random_stretches() {
                 assert_eq!(named, running);
             }
         }
-        nearest[0].join(&stretches.nearest[0]);
-        nearest[1].join(&stretches.nearest[1]);
+        totals.join(&stretches.totals);
     }
-    assert!(nearest.iter().all(|n| n.checks > 1_000_000));
-    say("random stretches", &nearest);
+    say("random stretches", &totals);
+    assert!(totals.nearest.iter().all(|n| n.checks > 1_000_000));
+    // Overruns are frequent. Neither limit would hold without its last term, nor with the first thread's overruns there.
+    assert!(totals.others > 1_000_000 && totals.own > 100_000);
+    assert!(totals.exceeded.iter().flatten().all(|&n| n > 1_000));
+}
+
+/// Dispatches, expects a thread and its slice, and reports.
+fn run(s: &mut Scheduler, thread: u32, slice: u32, reason: u64, used: u64) {
+    let reply = both(s, Call::Dispatch);
+    assert_eq!((reply.thread, reply.slice), (thread, slice));
+    assert_eq!(both(s, Call::Report { reason, used }).answer, 0);
+}
+
+/// A thread that leaves takes its debt along: one that leaves late in every round and comes back takes its overruns from
+/// the other, and in time more than the first limit without them.
+#[test]
+fn the_first_limit_needs_the_overruns() {
+    let (f, m, p, o) = (500, 10, 5_000, 9);
+    let mut s = start(m, p, o).unwrap();
+    for number in [1, 2] {
+        assert_eq!(both(&mut s, admit(number, 500)).answer, 0);
+    }
+    let limit = 2 * f * (1000 - f) * m + f * p;
+    let rounds = limit / (f * o) + 1;
+    for round in 1..=rounds {
+        run(&mut s, 1, 5_000, 0, 5_000);
+        run(&mut s, 2, 5_000, 3, 5_009);
+        assert_eq!(both(&mut s, admit(2, 500)).answer, 0);
+        // The lag of the first thread is what it is owed: never anchored since the state after its admission.
+        let owed = numbers::lag(to_library(&s), 1).result().unwrap() as u64;
+        assert_eq!(owed, f * o * round);
+        assert_eq!(owed > limit, round == rounds);
+    }
+}
+
+/// A thread with a tick left, woken before a running one that then runs late twice: that one gets more than the second
+/// limit without its overruns, as it had its whole quantum at the beginning of the stretch and is in debt at its end.
+#[test]
+fn the_second_limit_needs_the_overruns() {
+    let (f, g, m) = (500, 500, 10);
+    let mut s = start(m, 5_000, 9).unwrap();
+    for number in [1, 2] {
+        assert_eq!(both(&mut s, admit(number, 500)).answer, 0);
+    }
+    run(&mut s, 1, 5_000, 1, 4_999);
+    assert_eq!(both(&mut s, Call::Dispatch).thread, 2);
+    assert_eq!(both(&mut s, Call::Wake { number: 1 }).answer, 0);
+    // The stretch begins.
+    let late = Call::Report {
+        reason: 0,
+        used: 5_009,
+    };
+    assert_eq!(both(&mut s, late).answer, 0);
+    run(&mut s, 1, 1, 0, 1);
+    run(&mut s, 2, 4_991, 0, 5_000);
+    let (had, second, overruns) = (1, 5_009 + 5_000, 9 + 9);
+    let limit = g * had + 2 * f * g * m;
+    assert!(f * second > limit && f * second <= limit + f * overruns);
 }

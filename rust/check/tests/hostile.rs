@@ -1,7 +1,7 @@
 //! A hostile host: arbitrary bytes and arguments to every exported function, compared with the model,
 //! and lent memory against pages that nobody may touch.
 
-use check::attack::{Attack, FUNCTIONS, ORIGINS, ROUNDS, SEED};
+use check::attack::{Attack, ALLOTMENTS, FUNCTIONS, LIMITS, ORIGINS, ROUNDS, SEED};
 use check::faults;
 use check::guard::{Guarded, Side};
 use mtr::raw;
@@ -30,6 +30,15 @@ fn a_million_calls() {
         assert_eq!(unsound > 1_000, *origin != "sound", "{origin}");
         assert_eq!(sound > 1_000, *origin != "any bytes", "{origin}");
     }
+    // Every overrun limit and every allotment that a state can't have, and those that it can.
+    let limits = LIMITS.iter().zip(&attack.limits);
+    let allotments = ALLOTMENTS.iter().zip(&attack.allotments);
+    for ((name, can), [unsound, sound]) in limits.chain(allotments) {
+        assert!(*unsound > 100, "{name}: {unsound}");
+        assert_eq!(*sound > 100, *can, "{name}: {sound}");
+    }
+    let late = attack.late;
+    assert!(late.all_reports(10) && late.all_starts(100), "{late:?}");
     // At either guard page, areas of some length and of none.
     assert!(
         attack.areas.iter().flatten().all(|&n| n > 100),
@@ -81,7 +90,8 @@ fn touch(name: &str) {
     block[511] = 1;
     let front = page.lend(Side::Front, &block, 1);
     let back = page.lend(Side::Back, &block, 1);
-    let state = raw::mtr_by_value_admit(raw::mtr_by_value_start(100, 20_000).state, 1, 0, 10).state;
+    let state =
+        raw::mtr_by_value_admit(raw::mtr_by_value_start(100, 20_000, 99).state, 1, 0, 10).state;
     // SAFETY: none of them is, but for "inside". They touch a byte next to the page, or say of an area that it is
     // longer than it is or begins earlier, which the library has to be caught believing.
     unsafe {

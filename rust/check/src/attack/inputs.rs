@@ -1,14 +1,15 @@
 //! What is passed: states, arguments, records and blocks, arbitrary or nearly right.
 
+use crate::bytes::{self, STATE};
 use crate::compare::{to_library, to_library_record};
 use crate::guard::Side;
-use model::blocks::{check, write_block, BLOCK};
+use model::blocks::{check, write_block, BLOCK, RECORD};
 use model::calls::Call;
 use model::random::{any_record, edge_value, hostile_state, sound_state, Rng};
+use model::rule::Scheduler;
 use mtr::raw::{self, Record, Records};
-use std::mem::{size_of, transmute};
+use std::mem::size_of;
 
-const STATE: usize = size_of::<raw::Scheduler>();
 const LIST: usize = size_of::<Records>();
 
 pub(super) fn any_bytes(r: &mut Rng, to: &mut [u8]) {
@@ -18,42 +19,80 @@ pub(super) fn any_bytes(r: &mut Rng, to: &mut [u8]) {
     }
 }
 
+/// A state, and of which origin it is.
 pub(super) fn any_state(r: &mut Rng) -> (usize, raw::Scheduler) {
-    match r.below(8) {
+    match r.below(10) {
         0 => {
-            let mut bytes = [0; STATE];
-            any_bytes(r, &mut bytes);
-            // SAFETY: a state is numbers without padding: all bytes are one.
-            (0, unsafe {
-                transmute::<[u8; STATE], raw::Scheduler>(bytes)
-            })
+            let mut any = [0; STATE];
+            any_bytes(r, &mut any);
+            (0, bytes::to(&any))
         }
-        1 | 2 => {
-            let sound = to_library(&sound_state(r));
-            // SAFETY: as above.
-            let mut bytes = unsafe { transmute::<raw::Scheduler, [u8; STATE]>(sound) };
-            for _ in 0..r.edgy(1, 6) {
-                // Half of them past the threads, in the smaller part.
-                let at = if r.chance(1, 2) {
-                    r.range(2560, STATE as u64 - 1)
-                } else {
-                    r.below(STATE as u64)
-                };
-                let byte = &mut bytes[at as usize];
-                *byte = match r.below(3) {
-                    0 => r.bits() as u8,
-                    1 => *byte ^ 1 << r.below(8),
-                    _ => r.edgy(0, 64) as u8,
-                };
-            }
-            // SAFETY: as above.
-            (1, unsafe {
-                transmute::<[u8; STATE], raw::Scheduler>(bytes)
-            })
-        }
+        1 | 2 => (1, changed(r)),
         3 => (2, to_library(&hostile_state(r))),
-        _ => (3, to_library(&sound_state(r))),
+        4 => (3, owing(r)),
+        _ => (4, to_library(&sound(r))),
     }
+}
+
+/// A sound state, in which a report of the running thread may end its allotment beyond its slice.
+fn sound(r: &mut Rng) -> Scheduler {
+    let mut s = sound_state(r);
+    if let (Some(t), true) = (s.threads.get(s.running as usize), r.chance(1, 4)) {
+        let beyond = r.edgy(0, s.settings.overrun as u64) as u32;
+        s.settings.interval = (t.allotment as u32).saturating_sub(beyond).max(1);
+    }
+    s
+}
+
+/// A sound state with some bytes changed.
+fn changed(r: &mut Rng) -> raw::Scheduler {
+    let mut whole = bytes::state(&sound_state(r));
+    for _ in 0..r.edgy(1, 6) {
+        // Half of them past the threads, in the smaller part.
+        let at = if r.chance(1, 2) {
+            r.range(2560, STATE as u64 - 1)
+        } else {
+            r.below(STATE as u64)
+        };
+        let byte = &mut whole[at as usize];
+        *byte = match r.below(3) {
+            0 => r.bits() as u8,
+            1 => *byte ^ 1 << r.below(8),
+            _ => r.edgy(0, 64) as u8,
+        };
+    }
+    bytes::to(&whole)
+}
+
+/// A sound state with another overrun limit or other allotments, of any value.
+fn owing(r: &mut Rng) -> raw::Scheduler {
+    let mut s = sound_state(r);
+    let m = s.settings.thousandth;
+    if s.count == 0 || r.chance(1, 2) {
+        s.settings.overrun = match r.below(4) {
+            0 => r.bits() as u16,
+            1 => r.edgy(0, u16::MAX as u64) as u16,
+            2 => m - r.below(2) as u16,
+            _ => m + r.below(2) as u16,
+        };
+        return to_library(&s);
+    }
+    for _ in 0..r.range(1, 3) {
+        let n = r.pick(s.list()) as usize;
+        let t = &mut s.threads[n];
+        let quantum = t.reservation as i32 * m as i32;
+        let overrun = s.settings.overrun as u64;
+        t.allotment = match r.below(8) {
+            0 => r.bits() as i32,
+            1 => r.edgy(0, u32::MAX as u64) as u32 as i32,
+            2 => r.pick(&[i32::MIN, i32::MAX]),
+            3 => quantum + r.below(2) as i32,
+            4 => r.below(2) as i32,
+            5 | 6 => -(r.edgy(0, overrun) as i32),
+            _ => -(overrun as i32) - r.below(2) as i32,
+        };
+    }
+    to_library(&s)
 }
 
 /// 0, next to a power of two, any, an edge of some rule, about `top`, or up to `top`.
@@ -68,6 +107,18 @@ pub(super) fn argument(r: &mut Rng, top: u64) -> u64 {
         4 | 5 => r.edgy(0, top + 2),
         _ => r.range(0, top),
     }
+}
+
+/// m, P and O for a start. O is mostly one that m allows, or next to m.
+pub(super) fn settings(r: &mut Rng) -> (u64, u64, u64) {
+    let (m, p) = (argument(r, 1_000), argument(r, 1_000_000));
+    let o = match r.below(6) {
+        0 => argument(r, 1_000),
+        1 => m,
+        2 => m.wrapping_sub(1),
+        _ => r.edgy(0, m.saturating_sub(1)),
+    };
+    (m, p, o)
 }
 
 /// Mostly small, so that some fit a group.
@@ -106,15 +157,20 @@ pub(super) fn any_call(r: &mut Rng, function: usize, state: &raw::Scheduler) -> 
         },
         6 => Call::Dispatch,
         _ => {
-            let slice = match state.threads.get(state.running as usize) {
-                Some(t) => t.allotment.min(state.settings.interval) as u64,
+            let allotment = match state.threads.get(state.running as usize) {
+                Some(t) => t.allotment.max(0) as u64,
                 None => 1_000,
             };
+            let slice = allotment.min(state.settings.interval as u64);
+            let most = slice + state.settings.overrun as u64;
             Call::Report {
                 reason: argument(r, 3),
-                used: match r.below(4) {
+                used: match r.below(8) {
                     0 => argument(r, 1_000_000),
                     1 => slice + r.below(2),
+                    2 => most + r.below(2),
+                    3 | 4 => r.edgy(slice, most),
+                    5 => allotment.min(most),
                     _ => r.edgy(0, slice),
                 },
             }
@@ -141,10 +197,9 @@ pub(super) fn any_length(r: &mut Rng) -> usize {
 
 /// Any bytes, or records with a form, of which one may have a byte changed.
 pub(super) fn any_records(r: &mut Rng) -> Records {
-    let mut bytes = [0; LIST];
-    any_bytes(r, &mut bytes);
-    // SAFETY: numbers, and padding that may hold anything.
-    let mut list = unsafe { transmute::<[u8; LIST], Records>(bytes) };
+    let mut any = [0; LIST];
+    any_bytes(r, &mut any);
+    let mut list: Records = bytes::to(&any);
     if r.chance(1, 8) {
         return list;
     }
@@ -153,12 +208,13 @@ pub(super) fn any_records(r: &mut Rng) -> Records {
     }
     if r.chance(1, 4) {
         let record: &mut Record = &mut list.records[r.below(31) as usize];
-        match r.below(6) {
+        match r.below(7) {
             0 => record.kind = r.edgy(0, 255) as u8,
             1 => record.subject = r.edgy(0, 255) as u8,
             2 => record.group = r.edgy(0, 255) as u8,
             3 => record.reason = r.edgy(0, 255) as u8,
             4 => record.amount = r.edgy(0, 65_535) as u16,
+            5 => record.overrun = r.edgy(0, 65_535) as u16,
             _ => record.ticks = r.edgy(0, u32::MAX as u64) as u32,
         }
     }
@@ -177,10 +233,13 @@ pub(super) fn any_block(r: &mut Rng) -> (u32, [u8; 1_100]) {
     write_block(&mut bytes[..BLOCK], number, &records);
     let damages = if r.chance(1, 3) { 0 } else { r.edgy(1, 3) };
     for _ in 0..damages {
-        let at = match r.below(3) {
+        let row = 14 + RECORD as u64 * r.below(records.len() as u64);
+        let at = match r.below(4) {
             0 => r.below(14),
             1 => r.below(512),
-            _ => r.range(14, 14 + 16 * records.len() as u64),
+            // Where the overrun limit of a start is, also past the records.
+            2 => row + r.range(10, 11),
+            _ => r.range(14, 14 + (RECORD * records.len()) as u64),
         } as usize;
         bytes[at] = match r.below(3) {
             0 => r.bits() as u8,

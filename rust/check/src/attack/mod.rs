@@ -3,23 +3,28 @@
 //! A round takes a state and makes some calls on it, each on the state that the call before it handed
 //! back. Everything in a round follows from the seed and the round's number.
 
+mod classes;
 mod inputs;
 
-use crate::compare::{
-    made, to_library, to_library_record, to_model, to_model_entry, to_model_record, ZEROS,
-};
+pub use classes::{ALLOTMENTS, LIMITS, ORIGINS};
+
+use crate::bytes;
+use crate::compare::{made, to_library, to_model, to_model_entry, to_model_record, ZEROS};
 use crate::faults;
 use crate::guard::{Guarded, Side};
+use crate::late::Late;
+use classes::{allotment, limit};
 use inputs::{
     any_block, any_bytes, any_call, any_length, any_records, any_side, any_state, argument,
+    settings,
 };
 use model::blocks::{read_block, write_block};
 use model::calls::apply;
 use model::random::Rng;
 use model::rule::{priority, Scheduler};
-use mtr::raw::{self, Entry, Found, LagLine, Mapped, Reply, ShareLine, Total};
+use mtr::raw::{self, Entry, LagLine, Mapped, Reply, ShareLine, Total};
 use std::fmt::{Debug, Display};
-use std::mem::{size_of, transmute};
+use std::mem::size_of;
 
 /// Calls of a round.
 pub const CALLS: u64 = 8;
@@ -48,14 +53,6 @@ pub const FUNCTIONS: [(&str, &[u32]); 16] = [
     ("mtr_by_value_read_block", &[0, 17, 18, 19]),
 ];
 
-/// What a state was made of.
-pub const ORIGINS: [&str; 4] = [
-    "any bytes",
-    "sound, bytes changed",
-    "sound, fields changed",
-    "sound",
-];
-
 const ENTRY: usize = size_of::<Entry>();
 
 /// What was called and answered.
@@ -67,7 +64,12 @@ pub struct Attack {
     /// By function and answer.
     pub answers: [[u64; 20]; 16],
     /// By origin of the first state: not sound, sound.
-    pub states: [[u64; 2]; 4],
+    pub states: [[u64; 2]; 5],
+    /// By the first state's overrun limit and by the allotments of its listed threads.
+    pub limits: [[u64; 2]; 6],
+    pub allotments: [[u64; 2]; 9],
+    /// What occurred of overruns.
+    pub late: Late,
     /// Accepted dispatches that were idle.
     pub idle: u64,
     /// Lent areas by side and length.
@@ -82,7 +84,10 @@ impl Attack {
             round: 0,
             call: 0,
             answers: [[0; 20]; 16],
-            states: [[0; 2]; 4],
+            states: [[0; 2]; 5],
+            limits: [[0; 2]; 6],
+            allotments: [[0; 2]; 9],
+            late: Late::default(),
             idle: 0,
             areas: [[0; 2]; 2],
         }
@@ -97,7 +102,7 @@ impl Attack {
         let mut r = Rng::new(Rng::new(self.seed.rotate_left(32) ^ round).bits());
         self.round = round;
         let (origin, mut state) = any_state(&mut r);
-        self.states[origin][to_model(&state).sound() as usize] += 1;
+        self.note(origin, &state);
         for call in 0..CALLS {
             self.call = call;
             faults::note(self.seed, round, call);
@@ -105,6 +110,18 @@ impl Attack {
             let answer = self.make(&mut r, function, &mut state);
             assert!(answer < 20, "{} answers {answer}", self.place(function));
             self.answers[function][answer as usize] += 1;
+        }
+    }
+
+    fn note(&mut self, origin: usize, state: &raw::Scheduler) {
+        let s = to_model(state);
+        let sound = s.sound() as usize;
+        self.states[origin][sound] += 1;
+        self.limits[limit(&state.settings)][sound] += 1;
+        for &n in s.list() {
+            if let Some(t) = state.threads.get(n as usize) {
+                self.allotments[allotment(t, &state.settings)][sound] += 1;
+            }
         }
     }
 
@@ -158,12 +175,11 @@ impl Attack {
                 let number = argument(r, 63);
                 let found = raw::mtr_by_value_lag(*state, number);
                 let (answer, lag) = split(to_model(state).lag(number));
-                self.same(
-                    function,
-                    format_args!("{number} {state:?}"),
-                    found,
-                    LagLine { answer, lag },
-                );
+                let wanted = LagLine {
+                    answer: answer.into(),
+                    lag,
+                };
+                self.same(function, format_args!("{number} {state:?}"), found, wanted);
                 answer
             }
             12 => {
@@ -183,15 +199,30 @@ impl Attack {
         }
     }
 
+    /// Ends the run if a reply's bytes are not those of the model's numbers and state.
+    fn replied(
+        &self,
+        function: usize,
+        of: impl Display,
+        found: &Reply,
+        wanted: model::rule::Reply,
+        after: &Scheduler,
+    ) {
+        self.same(function, of, *found, reply(wanted, after));
+        let bytes = bytes::of(found) == bytes::reply(&wanted, after);
+        self.same(function, "bytes", bytes, true);
+    }
+
     fn start(&mut self, r: &mut Rng, state: &mut raw::Scheduler) -> u32 {
-        let (m, p) = (argument(r, 1_000), argument(r, 1_000_000));
-        let found = raw::mtr_by_value_start(m, p);
-        let (answer, after) = match Scheduler::start(m, p) {
+        let (m, p, o) = settings(r);
+        let found = raw::mtr_by_value_start(m, p, o);
+        let (answer, after) = match Scheduler::start(m, p, o) {
             Ok(after) => (0, after),
             Err(refusal) => (refusal, ZEROS),
         };
-        let wanted = reply(model::rule::Reply::plain(answer), &after);
-        self.same(0, format_args!("{m} {p}"), found, wanted);
+        let wanted = model::rule::Reply::plain(answer);
+        self.replied(0, format_args!("{m} {p} {o}"), &found, wanted, &after);
+        self.late.start(m, p, o, answer);
         // Now and then the new state is the one to go on with.
         if answer == 0 && r.chance(1, 4) {
             *state = found.state;
@@ -202,12 +233,16 @@ impl Attack {
     fn step(&mut self, r: &mut Rng, function: usize, state: &mut raw::Scheduler) -> u32 {
         let call = any_call(r, function, state);
         let found = made(*state, call);
-        let mut after = to_model(state);
+        let before = to_model(state);
+        let mut after = before;
         let numbers = apply(&mut after, call);
         let of = format_args!("{call:?} {state:?}");
-        self.same(function, of, found, reply(numbers, &after));
+        self.replied(function, of, &found, numbers, &after);
         if numbers.answer != 0 {
             self.same(function, "refused", found.state, *state);
+        }
+        if numbers.answer != 16 {
+            self.late.call(&before, call, numbers.answer);
         }
         self.idle += (numbers.answer == 0 && numbers.thread == 64) as u64;
         *state = found.state;
@@ -310,18 +345,14 @@ impl Attack {
             unsafe { raw::mtr_by_value_read_block(area, length, number) }
         });
 
-        let mut wanted = Found::default();
-        match read_block(contents, number) {
-            Err(refusal) => wanted.answer = refusal,
-            Ok(records) => {
-                wanted.count = records.len() as u32;
-                for (to, from) in wanted.records.iter_mut().zip(&records) {
-                    *to = to_library_record(from);
-                }
-            }
-        }
+        let (answer, records) = match read_block(contents, number) {
+            Err(refusal) => (refusal, Vec::new()),
+            Ok(records) => (0, records),
+        };
+        let wanted = bytes::found(answer, &records);
         let of = format_args!("of {length} {side:?}, block {number}, {contents:?}");
-        self.same(15, of, found, wanted);
+        self.same(15, of, found, bytes::to(&wanted));
+        self.same(15, "bytes", bytes::of(&found) == wanted, true);
         self.same(15, of, self.page.contents(side, length), contents);
         self.same(
             15,
@@ -329,7 +360,7 @@ impl Attack {
             self.page.intact(side, length),
             true,
         );
-        wanted.answer
+        answer
     }
 }
 
@@ -352,10 +383,7 @@ fn split<T: Default>(result: Result<T, u32>) -> (u32, T) {
 }
 
 fn entry(bytes: &[u8]) -> model::accounts::Entry {
-    let mut whole = [0; ENTRY];
-    whole.copy_from_slice(bytes);
-    // SAFETY: an entry is five numbers and has no padding.
-    to_model_entry(&unsafe { transmute::<[u8; ENTRY], Entry>(whole) })
+    to_model_entry(&bytes::to(bytes))
 }
 
 /// Reservations of the threads whose group, or a group above it, is `group`.

@@ -82,9 +82,9 @@ pub fn call(r: &mut Rng, s: &Scheduler) -> Call {
 }
 
 fn report_call(r: &mut Rng, s: &Scheduler) -> Call {
-    let slice = match s.threads.get(s.running as usize) {
-        Some(t) => t.slice(&s.settings) as u64,
-        None => 1000,
+    let (slice, allotment) = match s.threads.get(s.running as usize) {
+        Some(t) => (t.slice(&s.settings) as u64, t.allotment.max(0) as u64),
+        None => (1000, 1000),
     };
     let most = slice + s.settings.overrun as u64;
     Call::Report {
@@ -104,6 +104,8 @@ fn report_call(r: &mut Rng, s: &Scheduler) -> Call {
             5 => most + 1,
             6..=8 => r.edgy(slice, most),
             9..=11 => r.edgy(0, slice),
+            // To the tick all that is left, beyond the slice where that is P.
+            12 | 13 => allotment.min(most),
             _ => slice,
         },
     }
