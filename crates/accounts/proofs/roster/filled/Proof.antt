@@ -2,7 +2,8 @@
 use mathlib.Core.Path.{refl}
 use Prim.Native.Nat.{_-_}
 use native.Mathlib.Omega.{arith}
-use borrow.Author.Needs.{needs}
+use mir.Facts.{toZ-ofZ}
+use borrow.Author.Needs.{needs, sfits-of}
 use Rattle.accounts.proofs.Signed.{lag-bits}
 use Rattle.accounts.proofs.Keys.{key-lag}
 use Rattle.accounts.proofs.Rows.{key-at, key-bounded, Filling, none-filled, fills, all-filled, entry-is}
@@ -79,11 +80,12 @@ loop-less c = search needs
 
 loop-again : tie.Need-loop-again Inv-loop μ-loop
 loop-again c =
-    let l = in-loop (c .before .before) in
+    let l = in-loop (c .before .before .before) in
     let l2 = l .before in
     let s = l2 .before in
     fills _ _ (s .pre) _ _ (l2 .loop .inv) (l .loop-test .taken) _
-    (entry-is _ _ _ _ _ _ (c .before .before .state-of .ensures) (c .before .share-of .ensures) ?
+    (entry-is _ _ _ _ _ _ (c .before .before .before .state-of .ensures) (c .before .before .share-of .ensures)
+    (toZ-ofZ (sfits-of (c .before .struct-told .given .1 .1 .1 .1 .0 .1)))
     (lag-bits _ _ (key-bounded _ _ (s .pre) _ (l .loop-test .taken)) _ (key-lag _ _ _ (key-at _ _ (s .pre) _ (l .loop-test .taken)))))
 
 returns : tie.Need-returns Inv-loop μ-loop
