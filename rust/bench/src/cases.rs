@@ -212,6 +212,16 @@ fn report(n: u64, deep: bool, cases: &mut Vec<Case>) {
                 numbers::report(s, reason, used).answer
             }));
         }
+        // Beyond the slice, with the greatest debt.
+        let overrun = s.settings.thousandth - 1;
+        s.settings.overrun = overrun;
+        let most = whole + overrun as u64;
+        for (name, reason) in [("in debt", TICK), ("block, in debt", BLOCK)] {
+            let name = format!("{name} of the {place}");
+            cases.push(on(s, n, deep, &name, move |s| {
+                numbers::report(s, reason, most).answer
+            }));
+        }
         if n == 1 {
             break;
         }

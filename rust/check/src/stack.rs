@@ -9,7 +9,7 @@ use core::arch::asm;
 use model::calls::Call as Made;
 use model::random::{any_record, hostile_state, sound_state, Rng};
 use mtr::raw::{self, Entry, Found, Records, Reply};
-use mtr::{Reason, Scheduler};
+use mtr::{Reason, Scheduler, Settings};
 
 /// Bytes of the painted stack.
 const STACK: usize = 64 * 1024;
@@ -194,7 +194,12 @@ fn step(r: &mut Rng, to: u64, call: usize, state: &raw::Scheduler) -> [u64; 6] {
 /// blocked but the last, and one with a place left.
 fn deep() -> [raw::Scheduler; 4] {
     let built = |threads: u8| {
-        let mut s = Scheduler::default();
+        // Reports may end in debt.
+        let late = Settings {
+            overrun: 99,
+            ..Settings::default()
+        };
+        let mut s = Scheduler::new(late).unwrap();
         for group in 1..16 {
             // Each has room for four threads and the group below it.
             s.open(group, group - 1, 1000 - 60 * u16::from(group))
