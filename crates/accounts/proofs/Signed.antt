@@ -88,7 +88,7 @@ module _ (meter : ℕ) (t : Thread) (h : Bounded meter t) where
   pub ticks-small : 1000 * t .ticks < 2 ^ 63
   ticks-small = omega arith
 
-  -- |lag| is at most 1000 × (10^13 + 10^6)
+  -- |lag| is at most 1000 × (10^13 + 10^6 + 999)
   pub lag-most : natAbs (lagOf meter t) ≤ 1000 * meterMost
   unfolding lagOf
   lag-most =

@@ -77,8 +77,8 @@ module _ (a : ℤ) (used : ℕ) where
   unfolding afterReport natOf
   after-nat q yields h =
       let n = natOf a in
-      by (λ b. natOf (cond b (leftOf a used +ℤ pos q) (cond yields (pos q) (leftOf a used))) ≡ cond b (n + q - used) (cond yields q (n - used)))
-      (isUsedUp a used)
+      by (λ b. natOf (cond b (leftOf a used +ℤ pos q) (cond yields (pos q) (leftOf a used)))
+      ≡ cond b (n + q - used) (cond yields q (n - used))) (isUsedUp a used)
       (λ _. ap (λ (z : ℤ). natOf (z +ℤ pos q)) (left-sub h) ∙ sub-add n used q)
       (λ _. by (λ b. natOf (cond b (pos q) (leftOf a used)) ≡ cond b q (n - used)) yields
       (λ _. refl)

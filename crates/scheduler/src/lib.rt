@@ -8,8 +8,8 @@ pub mod refusal;
 pub mod sound;
 pub mod threads;
 
-// The settings: P, the preemption interval in ticks; m, the ticks per thousandth of the virtual time quantum; and O, the ticks that a report
-// may use beyond its slice.
+// The settings: P, the preemption interval in ticks; m, the ticks per thousandth of the virtual time quantum; O, the ticks that a report may
+// use beyond its slice.
 #[repr(C)]
 pub struct Settings {
     pub interval: u32,

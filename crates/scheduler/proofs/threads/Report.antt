@@ -18,8 +18,8 @@ use Rattle.scheduler.specs.declared.Scheduler.{Scheduler}
 use Rattle.scheduler.specs.declared.Answer.{Answer}
 use Rattle.scheduler.specs.declared.Answer.the-variants.{Accepted, Refused}
 use Rattle.quota.specs.Quota.{natOf}
-use Rattle.scheduler.specs.State.{noThread, threadAt, admittedAt, reservedAt, sliceAt, allotmentAt, usedMost, listed, stateOf, withThread}
-use Rattle.scheduler.specs.State.{withList, withRun, meterMost}
+use Rattle.scheduler.specs.State.{noThread, threadAt, admittedAt, reservedAt, sliceAt, allotmentAt, usedMost, listed}
+use Rattle.scheduler.specs.State.{stateOf, withThread, withList, withRun, meterMost}
 use Rattle.scheduler.specs.Sound.{sound}
 use Rattle.scheduler.specs.Refusals.{report, checks, refusal}
 use Rattle.scheduler.specs.Effects.{rear, toRear, offList, renewed, chargedThread, charged, exited, reported, effect}
@@ -42,7 +42,8 @@ module _ (s : Scheduler) (reason used : ℕ) where
 
   -- the checks
   abbrev numberAt : Bool → ℕ → ℕ
-  numberAt ok v = firstOf ((not ok ⇒ 16) ∷ (eqb (s .running) 64 ⇒ 11) ∷ (ltb 3 reason ⇒ 14) ∷ (ltb (v + s .settings .overrun) used ⇒ 13) ∷ [])
+  numberAt ok v =
+      firstOf ((not ok ⇒ 16) ∷ (eqb (s .running) 64 ⇒ 11) ∷ (ltb 3 reason ⇒ 14) ∷ (ltb (v + s .settings .overrun) used ⇒ 13) ∷ [])
 
   at-rest : numberAt (sound s) (slice place) ≡ numberAt (sound s) (slice (s .running))
   unfolding firstOf

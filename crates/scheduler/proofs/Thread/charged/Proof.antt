@@ -47,7 +47,8 @@ returns-3 : tie.Need-returns-3
 unfolding chargedThread
 returns-3 c = λ s e f.
     let d = c .before .before in
-    rw (d .before .before .remaining .ensures s f, stored (d .before .before) s f, d .before .charge .ensures, d .charge2 .ensures, c .if3 .taken, f)
+    let b = d .before .before in
+    rw (b .remaining .ensures s f, stored b s f, d .before .charge .ensures, d .charge2 .ensures, c .if3 .taken, f)
 
 returns-4 : tie.Need-returns-4
 unfolding chargedThread

@@ -25,9 +25,9 @@ returns-2 : tie.Need-returns-2
 unfolding renewed
 returns-2 c =
     let a = c .before .before .before .args in
+    let e = toZ-ofZ (sfits-of (c .before .struct-told .given .1 .1 .1 .1 .0 .1)) in
     rw (ne-eqb (a .reason) 2 (c .before .before .if1 .left))
-    (ap (λ (n : ℕ). leb n (a .used)) (c .number-of .ensures ∙ ap natOf (toZ-ofZ (sfits-of (c .before .struct-told .given .1 .1 .1 .1 .0 .1))))
-    ∙ sym (used-up (a .used) (a .self)))
+    (ap (λ (n : ℕ). leb n (a .used)) (c .number-of .ensures ∙ ap natOf e) ∙ sym (used-up (a .used) (a .self)))
 
 pub renewed-spec : {M : Type 1} → statement M
 renewed-spec = tie.close (tie.spec returns number-of-requires cast-result returns-2)
