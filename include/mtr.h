@@ -54,22 +54,22 @@
  * instructions differ by up to 24 from one run to another.
  *
  *     call                 stack    instructions
- *     mtr_start             2800            2702
- *     mtr_open             11376            4756
- *     mtr_close            11360            4725
- *     mtr_admit            11312            4749
- *     mtr_remove           11280            4774
- *     mtr_wake             11216            4562
- *     mtr_dispatch         11216            5298
- *     mtr_report           11328            4882
- *     mtr_sound             5752            3945
+ *     mtr_start             2800            2716
+ *     mtr_open             11376            4724
+ *     mtr_close            11360            4716
+ *     mtr_admit            11312            4741
+ *     mtr_remove           11280            4765
+ *     mtr_wake             11216            4553
+ *     mtr_dispatch         11216            5292
+ *     mtr_report           11328            4865
+ *     mtr_sound             5752            3936
  *     mtr_priority            16               8
- *     mtr_subtree           8252            6656
- *     mtr_lag              11224            4554
- *     mtr_share            11216            4553
- *     mtr_roster           14600           30889
- *     mtr_write_block        840            3653
- *     mtr_read_block        1604            4634
+ *     mtr_subtree           8252            6647
+ *     mtr_lag              11224            4545
+ *     mtr_share            11216            4544
+ *     mtr_roster           14600           30880
+ *     mtr_write_block        840            3902
+ *     mtr_read_block        1252            4823
  */
 #ifndef MTR_H
 #define MTR_H
@@ -392,8 +392,8 @@ MTR_FIELD(mtr_group, opened, 3, 1);
 
 /*
  * The settings: P, the preemption interval in ticks; m, the ticks per
- * thousandth of the virtual time quantum; and O, the ticks that a report may
- * use beyond its slice.
+ * thousandth of the virtual time quantum; O, the ticks that a report may use
+ * beyond its slice.
  */
 typedef struct mtr_settings {
     uint32_t interval;

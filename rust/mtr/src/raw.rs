@@ -266,8 +266,8 @@ layout! {
 }
 
 /// The settings: P, the preemption interval in ticks; m, the ticks per
-/// thousandth of the virtual time quantum; and O, the ticks that a report may
-/// use beyond its slice.
+/// thousandth of the virtual time quantum; O, the ticks that a report may use
+/// beyond its slice.
 #[repr(C)]
 #[derive(Clone, Copy, Debug, PartialEq, Eq)]
 pub struct Settings {
