@@ -25,7 +25,7 @@ fn empty_input() {
 
 #[test]
 fn shipped_journals() {
-    for name in ["listing", "steady", "exporter"] {
+    for name in ["listing", "steady", "exporter", "late"] {
         let input = std::fs::read(root().join(format!("examples/journals/{name}.blocks"))).unwrap();
         let out = whole(&input);
         assert!(!out.is_empty());
