@@ -1,0 +1,3 @@
+#[path="a.rs"] mod a;
+use std::time::Instant;
+fn main(){ }
