@@ -1,3 +1,0 @@
-#[path="a.rs"] mod a;
-use std::time::Instant;
-fn main(){ }
