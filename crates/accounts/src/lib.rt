@@ -15,7 +15,7 @@ pub enum Share {
     Refused(u32),
 }
 
-// A record of the roster. state: 0 runnable, 1 blocked, 2 running.
+// A record of the roster. state: 0 runnable, 1 blocked, 2 running. The allotment is at least 1.
 #[repr(C)]
 pub struct Entry {
     pub number: u32,

@@ -25,11 +25,13 @@ pub fn after(allotment: i32, quantum: u32, yields: bool, used: u32) -> i64
     ensures { λ r. ⌜ r ≡ afterReport allotment quantum yields used ⌝ }
 {
     let left = allotment as i64 - used as i64;
+    let full = quantum as i64;
+    let added = left + full;
     if left <= 0 {
-        return left + quantum as i64;
+        return added;
     }
     if yields {
-        return quantum as i64;
+        return full;
     }
     left
 }

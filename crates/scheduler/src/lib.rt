@@ -50,7 +50,7 @@ impl Settings {
 }
 
 // A thread. status: 0 free, 1 runnable, 2 blocked. admission and anchor are the meter at admission and at the anchor;
-// ticks and since are the thread's ticks since each.
+// ticks and since are the thread's ticks since each. In a sound state the allotment of an admitted thread is 1 to its quantum.
 #[repr(C)]
 pub struct Thread {
     pub admission: u64,

@@ -35,13 +35,12 @@ cast-left-2 c = search needs
 sub-left : tie.Need-sub-left
 sub-left c = left-fits (c .args .allotment) (c .args .used) (c .fits .allotment) (u-small c)
 
-cast-result : tie.Need-cast-result
-cast-result c = search needs
+cast-full : tie.Need-cast-full
+cast-full c = search needs
 
-add-result : tie.Need-add-result
-add-result c =
-    let s = c .before in
-    sum-fits (s .args .allotment) (s .args .used) (s .fits .allotment) (u-small s) (s .args .quantum) (q-small s)
+add-added : tie.Need-add-added
+add-added c =
+    sum-fits (c .args .allotment) (c .args .used) (c .fits .allotment) (u-small c) (c .args .quantum) (q-small c)
 
 returns : tie.Need-returns
 unfolding afterReport isUsedUp leftOf
@@ -49,9 +48,6 @@ returns c =
     let s = c .before in
     rw (told s (c .if1 .taken))
     (sum-bits (s .args .allotment) (s .args .used) (s .fits .allotment) (u-small s) (s .args .quantum) (q-small s))
-
-cast-result-2 : tie.Need-cast-result-2
-cast-result-2 c = search needs
 
 returns-2 : tie.Need-returns-2
 unfolding afterReport isUsedUp leftOf
@@ -66,15 +62,4 @@ returns-3 c =
     rw (told s (c .before .if1 .left), c .if2 .left) (left-bits (s .args .allotment) (s .args .used) (s .fits .allotment) (u-small s))
 
 pub after-spec : {M : Type 1} → statement M
-after-spec =
-    tie.close
-    (tie.spec
-    cast-left
-    cast-left-2
-    sub-left
-    cast-result
-    add-result
-    returns
-    cast-result-2
-    returns-2
-    returns-3)
+after-spec = tie.close (tie.spec cast-left cast-left-2 sub-left cast-full add-added returns returns-2 returns-3)
