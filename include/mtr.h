@@ -57,19 +57,19 @@
  *     mtr_start             2800            2716
  *     mtr_open             11376            4724
  *     mtr_close            11360            4716
- *     mtr_admit            11312            4741
+ *     mtr_admit            11312            4717
  *     mtr_remove           11280            4765
  *     mtr_wake             11216            4553
  *     mtr_dispatch         11216            5292
- *     mtr_report           11328            4865
+ *     mtr_report           11328            4841
  *     mtr_sound             5752            3936
  *     mtr_priority            16               8
  *     mtr_subtree           8252            6647
  *     mtr_lag              11224            4545
  *     mtr_share            11216            4544
- *     mtr_roster           14600           30880
- *     mtr_write_block        840            3902
- *     mtr_read_block        1252            4823
+ *     mtr_roster           14600           30904
+ *     mtr_write_block        824            3192
+ *     mtr_read_block        1220            3831
  */
 #ifndef MTR_H
 #define MTR_H
@@ -357,7 +357,8 @@ MTR_MUST_USE static inline const char *mtr_answer_text(mtr_answer answer)
 /*
  * A thread. status: 0 free, 1 runnable, 2 blocked. admission and anchor are the
  * meter at admission and at the anchor; ticks and since are the thread's ticks
- * since each.
+ * since each. In a sound state the allotment of an admitted thread is 1 to its
+ * quantum.
  */
 typedef struct mtr_thread {
     uint64_t admission;
@@ -488,7 +489,10 @@ MTR_STRUCT(mtr_share_line, 8, 4);
 MTR_FIELD(mtr_share_line, answer, 0, 4);
 MTR_FIELD(mtr_share_line, share, 4, 4);
 
-/* A record of the roster. state: 0 runnable, 1 blocked, 2 running. */
+/*
+ * A record of the roster. state: 0 runnable, 1 blocked, 2 running. The
+ * allotment is at least 1.
+ */
 typedef struct mtr_entry {
     uint32_t number;
     uint32_t state;

@@ -223,7 +223,8 @@ pub const fn answer_text(answer: u32) -> &'static str {
 
 /// A thread. status: 0 free, 1 runnable, 2 blocked. admission and anchor are
 /// the meter at admission and at the anchor; ticks and since are the thread's
-/// ticks since each.
+/// ticks since each. In a sound state the allotment of an admitted thread is 1
+/// to its quantum.
 #[repr(C)]
 #[derive(Clone, Copy, Debug, PartialEq, Eq, Default)]
 pub struct Thread {
@@ -388,7 +389,8 @@ layout! {
     share = 4, 4;
 }
 
-/// A record of the roster. state: 0 runnable, 1 blocked, 2 running.
+/// A record of the roster. state: 0 runnable, 1 blocked, 2 running. The
+/// allotment is at least 1.
 #[repr(C)]
 #[derive(Clone, Copy, Debug, PartialEq, Eq, Default)]
 pub struct Entry {
