@@ -1,0 +1,167 @@
+//! Two versions of the static library in one program (`rust/bench/beside.sh`).
+#![allow(dead_code)]
+
+#[macro_use]
+mod starts;
+mod raw_new;
+mod raw_old;
+
+use std::hint::black_box;
+use std::time::{Duration, Instant};
+
+const ROUNDS: usize = 301;
+const ROUND: Duration = Duration::from_micros(300);
+
+type Side = Box<dyn FnMut()>;
+
+fn run(side: &mut Side, times: u32) -> Duration {
+    let begin = Instant::now();
+    for _ in 0..times {
+        side();
+    }
+    begin.elapsed()
+}
+
+fn median(mut values: Vec<f64>) -> f64 {
+    values.sort_by(f64::total_cmp);
+    values[values.len() / 2]
+}
+
+fn measure(name: &str, mut sides: [Side; 2]) {
+    let mut times = 1;
+    while sides.iter_mut().map(|side| run(side, times)).max() < Some(ROUND) {
+        times *= 2;
+    }
+    let mut rounds = [const { Vec::new() }; 2];
+    for round in 0..ROUNDS {
+        for k in [round % 2, 1 - round % 2] {
+            rounds[k].push(run(&mut sides[k], times).as_nanos() as f64 / f64::from(times));
+        }
+    }
+    let ratio = median(
+        rounds[0]
+            .iter()
+            .zip(&rounds[1])
+            .map(|(old, new)| new / old)
+            .collect(),
+    );
+    let [old, new] = rounds.map(median);
+    println!("{name:<24} old {old:>6.0} ns   new {new:>6.0} ns   new / old {ratio:.2}");
+}
+
+/// The calls of one version that are timed.
+macro_rules! version {
+    ($name:ident, $raw:ident, $start:ident, $admit:ident, $dispatch:ident, $report:ident, $sound:ident, $write:ident, $read:ident) => {
+        mod $name {
+            use super::*;
+
+            fn threads(n: u64) -> $raw::Scheduler {
+                let mut state = $start!().state;
+                for k in 0..n {
+                    let reply = $raw::$admit(state, k, 0, 960 / n);
+                    assert_eq!(reply.answer, 0);
+                    state = reply.state;
+                }
+                state
+            }
+
+            pub fn pair(n: u64) -> Side {
+                let mut state = threads(n);
+                Box::new(move || {
+                    let state = black_box(&mut state);
+                    let run = $raw::$dispatch(*state);
+                    *state = $raw::$report(run.state, 0, u64::from(run.slice)).state;
+                })
+            }
+
+            pub fn sound(n: u64) -> Side {
+                let state = threads(n);
+                Box::new(move || {
+                    black_box($raw::$sound(*black_box(&state)));
+                })
+            }
+
+            /// 31 records of all kinds.
+            fn records() -> $raw::Records {
+                let mut list = $raw::Records::default();
+                for (i, r) in (0u8..).zip(list.records.iter_mut()) {
+                    r.kind = 1 + i % 8;
+                    match r.kind {
+                        1 | 3 => (r.subject, r.group, r.amount) = (i, i / 2, 20 * u16::from(i)),
+                        2 | 4 | 5 => r.subject = i,
+                        7 => (r.reason, r.ticks) = (i % 4, 20_000),
+                        8 => (r.amount, r.ticks) = (100, 20_000),
+                        _ => {}
+                    }
+                }
+                list
+            }
+
+            pub fn write() -> Side {
+                let list = records();
+                let mut area = [0; 512];
+                Box::new(move || {
+                    let area = black_box(&mut area);
+                    // SAFETY: the area is borrowed for the call and has this length.
+                    black_box(unsafe {
+                        $raw::$write(area.as_mut_ptr(), area.len(), 7, *black_box(&list), 31)
+                    });
+                })
+            }
+
+            pub fn read() -> Side {
+                let mut area = [0; 512];
+                // SAFETY: as above.
+                assert_eq!(
+                    unsafe { $raw::$write(area.as_mut_ptr(), area.len(), 7, records(), 31) },
+                    0
+                );
+                Box::new(move || {
+                    let area = black_box(&area);
+                    // SAFETY: as above.
+                    black_box(&unsafe { $raw::$read(area.as_ptr(), area.len(), 7) });
+                })
+            }
+        }
+    };
+}
+
+version!(
+    old,
+    raw_old,
+    start_old,
+    old_by_value_admit,
+    old_by_value_dispatch,
+    old_by_value_report,
+    old_by_value_sound,
+    old_by_value_write_block,
+    old_by_value_read_block
+);
+version!(
+    new,
+    raw_new,
+    start_new,
+    new_by_value_admit,
+    new_by_value_dispatch,
+    new_by_value_report,
+    new_by_value_sound,
+    new_by_value_write_block,
+    new_by_value_read_block
+);
+
+fn main() {
+    for n in [2, 16, 64] {
+        measure(
+            &format!("dispatch + report, {n}"),
+            [old::pair(n), new::pair(n)],
+        );
+    }
+    for n in [2, 16, 64] {
+        measure(
+            &format!("soundness test, {n}"),
+            [old::sound(n), new::sound(n)],
+        );
+    }
+    measure("write a full block", [old::write(), new::write()]);
+    measure("read a full block", [old::read(), new::read()]);
+}
