@@ -4,12 +4,12 @@
 ghost use mathlib.Core.Path.{_≡_};
 ghost use mathlib.Core.Bool.{true, cond, _||_};
 ghost use mathlib.Core.List.{_++_};
-ghost use Prim.Native.Nat.{_+_, _-_, _*_, min, _≤_, _<_};
+ghost use Prim.Native.Nat.{_+_, _-_, min, _≤_, _<_};
 ghost use lib.Dec.{eqb};
 ghost use lib.ListN.{take, drop};
 ghost use Rattle.order.specs.Queue.{requeue};
 ghost use Rattle.quota.specs.Quota.{natOf};
-ghost use Rattle.scheduler.specs.State.{noThread, meterMost, sliceMost, chargeMost};
+ghost use Rattle.scheduler.specs.State.{noThread, meterMost, chargeMost};
 ghost use Rattle.scheduler.specs.Sound.{sound};
 ghost use Rattle.scheduler.specs.Refusals.{remove, wake, dispatch, report};
 ghost use Rattle.scheduler.specs.Effects.{renewed, allotmentAfter, chargedThread, wokenThread, unstarted};

@@ -1,5 +1,5 @@
 -- `renewed` meets its contract: what is used up is no more than the ticks used.
-use mathlib.Core.Path.{_≡_, sym, ap, _∙_}
+use mathlib.Core.Path.{sym, ap, _∙_}
 use Prim.Native.Nat.{ℕ}
 use mir.Facts.{toZ-ofZ}
 use lib.Dec.{leb}
