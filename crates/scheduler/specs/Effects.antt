@@ -62,6 +62,7 @@ usedUp used t = isUsedUp (t .allotment) used
 unfoldable pub renewed : ℕ → ℕ → Thread → Bool
 renewed reason used t = eqb reason 2 || usedUp used t
 
+-- and what the allotment is after the report
 unfoldable pub allotmentAfter : Scheduler → ℕ → ℕ → Thread → ℤ
 allotmentAfter s reason used t = afterReport (t .allotment) (quantum s (t .reservation)) (eqb reason 2) used
 
