@@ -26,7 +26,7 @@ rm -f "$work/src/starts.rs"
 side old "$older"
 side new "$PWD"
 
-cp rust/bench/beside/main.rs "$work/src/main.rs"
+cp rust/bench/beside/main.rs rust/bench/src/rounds.rs "$work/src"
 cat >"$work/Cargo.toml" <<'END'
 [package]
 name = "beside"

@@ -8,11 +8,12 @@ use native.Mathlib.Omega.{arith}
 use borrow.Author.Tests.{ltb-true, eq-eqb, ne-eqb}
 use lib.Dec.{ltb, eqb}
 use lib.IntN.{ℤ, pos, negsuc, subℕ, natAbs, _-ℤ_}
-use lib.Signed.{mag, ltZ}
+use lib.Signed.{mag}
 use mir.Syntax.{w64}
 use mir.Val.{SFits, toZ, ofZ}
 use mir.Facts.{toZ-ofZ}
 use Rattle.base.proofs.Bools.{by}
+use Rattle.base.proofs.Signed.{pos-sub, mag-sub, small}
 use Rattle.scheduler.specs.declared.Thread.{Thread}
 use Rattle.scheduler.specs.State.{meterMost}
 use Rattle.scheduler.specs.Accounts.{lagOf, shareOf}
@@ -20,25 +21,8 @@ use Rattle.accounts.specs.Inner.{Bounded}
 
 -- At 64 bits.
 
--- a difference of two numbers lies no further from zero than the larger of them
-mag-sub : (a b k : ℕ) → a < k → b < k → mag (subℕ a b) < k
-mag-sub a b k ha hb = by (λ z. ltb a b ≡ z → mag (subℕ a b) < k) (ltb a b) (λ _ e. rw e (omega arith)) (λ _ e. rw e (omega arith)) refl
-
-pos-sub : (a b : ℕ) → pos a -ℤ pos b ≡ subℕ a b
-pos-sub a zero =
-    by (λ z. ltb a zero ≡ z → pos (a + zero) ≡ subℕ a zero) (ltb a zero) (λ _ e. absurd (none a (ltb-true a zero e)))
-    (λ _ e. rw e (ap pos (omega arith))) refl
-  where
-    none : (a : ℕ) → a < zero → ⊥
-    none a h = omega arith
-pos-sub a (suc b) = refl
-
--- bits below half are the number itself
-small : {a : ℕ} → a < 2 ^ 63 → toZ w64 a ≡ pos a
-small {a} h = toZ-ofZ {w = w64} {z = pos a} (record { sfits = h })
-
 diff-is : (a b : ℕ) → a < 2 ^ 63 → b < 2 ^ 63 → toZ w64 a -ℤ toZ w64 b ≡ subℕ a b
-diff-is a b ha hb = (λ i. small ha i -ℤ small hb i) ∙ pos-sub a b
+diff-is a b ha hb = (λ i. small w64 a ha i -ℤ small w64 b hb i) ∙ pos-sub a b
 
 pub diff-fits : (a b : ℕ) → a < 2 ^ 63 → b < 2 ^ 63 → SFits w64 (toZ w64 a -ℤ toZ w64 b)
 diff-fits a b ha hb = record { sfits = subst (λ (z : ℤ). mag z < 2 ^ 63) (sym (diff-is a b ha hb)) (mag-sub a b (2 ^ 63) ha hb) }
@@ -46,10 +30,6 @@ diff-fits a b ha hb = record { sfits = subst (λ (z : ℤ). mag z < 2 ^ 63) (sym
 -- the difference as it is stored
 pub diff-bits : (a b : ℕ) → a < 2 ^ 63 → b < 2 ^ 63 → toZ w64 (ofZ w64 (toZ w64 a -ℤ toZ w64 b)) ≡ subℕ a b
 diff-bits a b ha hb = toZ-ofZ (diff-fits a b ha hb) ∙ diff-is a b ha hb
-
--- two signed numbers read from fields: the code compares their bits, and both fit
-pub told : {z : Bool} (x y : ℤ) → SFits w64 x → SFits w64 y → ltZ (toZ w64 (ofZ w64 x)) (toZ w64 (ofZ w64 y)) ≡ z → ltZ x y ≡ z
-told x y hx hy e = (λ i. ltZ (sym (toZ-ofZ hx) i) (sym (toZ-ofZ hy) i)) ∙ e
 
 abs-sub : (a b k : ℕ) → a ≤ k → b ≤ k → natAbs (subℕ a b) ≤ k
 abs-sub a b k ha hb =

@@ -2,3 +2,4 @@ pub mod Bools
 pub mod Lists
 pub mod Sums
 pub mod Bytes
+pub mod Signed

@@ -8,14 +8,8 @@ use lib.IntN.{ℤ, pos, negsuc, subℕ, _+ℤ_, _-ℤ_}
 use lib.Signed.{leZ}
 use borrow.Author.Tests.{ltb-true, ltb-false, leb-true, leb-false, lt-leb, le-leb}
 use Rattle.base.proofs.Bools.{by, cases}
+use Rattle.base.proofs.Signed.{pos-sub}
 use Rattle.quota.specs.Quota.{natOf, leftOf, isUsedUp, afterReport}
-
-pub pos-sub : (a b : ℕ) → pos a -ℤ pos b ≡ subℕ a b
-pos-sub a zero = cases (ltb a zero) (λ e. absurd (none a (ltb-true a zero e))) (λ e. rw e (ap pos (omega arith)))
-  where
-    none : (a : ℕ) → a < zero → ⊥
-    none a h = omega arith
-pos-sub a (suc b) = refl
 
 -- a number from 1 up is its own reading
 pub pos-of : (z : ℤ) → 1 ≤ natOf z → z ≡ pos (natOf z)

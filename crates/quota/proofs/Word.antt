@@ -10,9 +10,10 @@ use mir.Syntax.{w32, w64}
 use mir.Val.{Fits, SFits, toZ, ofZ}
 use mir.Facts.{toZ-ofZ}
 use borrow.Author.Tests.{ltb-true, ltb-false, le-ltb}
-use Rattle.base.proofs.Bools.{clash, cases}
+use Rattle.base.proofs.Bools.{clash}
+use Rattle.base.proofs.Signed.{pos-sub, mag-sub, small}
 use Rattle.quota.specs.Quota.{natOf, leftOf, isUsedUp, afterReport}
-use Rattle.quota.proofs.Debt.{pos-sub, pos-of}
+use Rattle.quota.proofs.Debt.{pos-of}
 
 -- The reading as a number.
 
@@ -49,18 +50,7 @@ unfolding natOf
 castable-one (pos n) f h = castable (pos n) f (le-ltb n 0 (omega arith))
 castable-one (negsuc n) f h = absurd (omega arith)
 
--- a number that is small is itself, read from its bits
-pub small : (n : ℕ) → n < 2 ^ 31 → toZ w32 n ≡ pos n
-small n h = toZ-ofZ {w = w32} {z = pos n} (record { sfits = omega arith })
-
--- a test of two numbers that fit, made on their bits
-pub told : {b : Bool} (x y : ℤ) → SFits w32 x → SFits w32 y → ltZ (toZ w32 (ofZ w32 x)) (toZ w32 (ofZ w32 y)) ≡ b → ltZ x y ≡ b
-told x y hx hy e = (λ i. ltZ (sym (toZ-ofZ hx) i) (sym (toZ-ofZ hy) i)) ∙ e
-
 -- Sums and differences in 64 bits.
-
-mag-sub : (a b k : ℕ) → a < k → b < k → mag (subℕ a b) < k
-mag-sub a b k ha hb = cases (ltb a b) (λ e. rw e (omega (arith, ltb-true a b e))) (λ e. rw e (omega arith))
 
 mag-less : (a : ℤ) (u : ℕ) → mag a < 2 ^ 31 → u < 2 ^ 32 → mag (a -ℤ pos u) < 2 ^ 33
 mag-less (pos a) u h l = subst (λ (z : ℤ). mag z < 2 ^ 33) (sym (pos-sub a u)) (mag-sub a u (2 ^ 33) (omega arith) (omega arith))
@@ -95,7 +85,7 @@ pub num-fits : (n : ℕ) → n < 2 ^ 32 → SFits w64 (pos n)
 num-fits n h = record { sfits = omega arith }
 
 pub num : (n : ℕ) → n < 2 ^ 32 → toZ w64 n ≡ pos n
-num n h = toZ-ofZ {w = w64} {z = pos n} (num-fits n h)
+num n h = small w64 n (omega arith)
 
 module _ (a : ℤ) (u : ℕ) (ha : SFits w32 a) (hu : u < 2 ^ 32) where
   pub wide-fits : SFits w64 (toZ w32 (ofZ w32 a))

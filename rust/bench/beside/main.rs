@@ -5,47 +5,17 @@
 mod starts;
 mod raw_new;
 mod raw_old;
+mod rounds;
 
 use std::hint::black_box;
-use std::time::{Duration, Instant};
 
-const ROUNDS: usize = 301;
-const ROUND: Duration = Duration::from_micros(300);
+use rounds::measure;
 
-type Side = Box<dyn FnMut()>;
+type Side = rounds::Side<'static>;
 
-fn run(side: &mut Side, times: u32) -> Duration {
-    let begin = Instant::now();
-    for _ in 0..times {
-        side();
-    }
-    begin.elapsed()
-}
-
-fn median(mut values: Vec<f64>) -> f64 {
-    values.sort_by(f64::total_cmp);
-    values[values.len() / 2]
-}
-
-fn measure(name: &str, mut sides: [Side; 2]) {
-    let mut times = 1;
-    while sides.iter_mut().map(|side| run(side, times)).max() < Some(ROUND) {
-        times *= 2;
-    }
-    let mut rounds = [const { Vec::new() }; 2];
-    for round in 0..ROUNDS {
-        for k in [round % 2, 1 - round % 2] {
-            rounds[k].push(run(&mut sides[k], times).as_nanos() as f64 / f64::from(times));
-        }
-    }
-    let ratio = median(
-        rounds[0]
-            .iter()
-            .zip(&rounds[1])
-            .map(|(old, new)| new / old)
-            .collect(),
-    );
-    let [old, new] = rounds.map(median);
+fn row(name: &str, old: Side, new: Side) {
+    let times = measure(vec![new, old]);
+    let ([new, old], ratio) = ([times.nanos[0], times.nanos[1]], times.ratios[0]);
     println!("{name:<24} old {old:>6.0} ns   new {new:>6.0} ns   new / old {ratio:.2}");
 }
 
@@ -151,17 +121,19 @@ version!(
 
 fn main() {
     for n in [2, 16, 64] {
-        measure(
+        row(
             &format!("dispatch + report, {n}"),
-            [old::pair(n), new::pair(n)],
+            old::pair(n),
+            new::pair(n),
         );
     }
     for n in [2, 16, 64] {
-        measure(
+        row(
             &format!("soundness test, {n}"),
-            [old::sound(n), new::sound(n)],
+            old::sound(n),
+            new::sound(n),
         );
     }
-    measure("write a full block", [old::write(), new::write()]);
-    measure("read a full block", [old::read(), new::read()]);
+    row("write a full block", old::write(), new::write());
+    row("read a full block", old::read(), new::read());
 }

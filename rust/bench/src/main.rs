@@ -9,6 +9,7 @@
 
 mod cases;
 mod journals;
+mod rounds;
 mod states;
 mod times;
 

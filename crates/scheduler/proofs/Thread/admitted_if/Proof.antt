@@ -2,10 +2,11 @@
 use Prim.Native.Nat.{_≤_}
 use native.Mathlib.Omega.{arith}
 use native.Mathlib.Nat.{mul-le-mul}
+use mir.Syntax.{w32}
 use borrow.Author.Needs.{needs}
 use Rattle.scheduler.specs.State.{sliceMost}
 use Rattle.scheduler.specs.Effects.{newThread}
-use Rattle.quota.proofs.Word.{small}
+use Rattle.base.proofs.Signed.{small}
 use Rattle.scheduler.proofs.Thread.admitted_if.Statement.{statement}
 use Rattle.scheduler.proofs.Thread.admitted_if.Tie as tie
 
@@ -32,7 +33,7 @@ cast-t12 c = omega (arith, (c .before .before .pre (c .before .if1 .taken)) .1)
 
 returns : tie.Need-returns
 unfolding newThread
-returns c = λ s e f. rw (c .before .if1 .taken, small (c .quantum-of .result) (omega (arith, most c)), c .quantum-of .ensures, e, f)
+returns c = λ s e f. rw (c .before .if1 .taken, small w32 (c .quantum-of .result) (omega (arith, most c)), c .quantum-of .ensures, e, f)
 
 returns-2 : tie.Need-returns-2
 returns-2 c = λ s e f. rw (c .if1 .left)

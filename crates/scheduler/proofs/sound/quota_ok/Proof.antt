@@ -10,7 +10,8 @@ use lib.Signed.{ltZ}
 use mir.Syntax.{w32}
 use mir.Val.{toZ, ofZ}
 use Rattle.quota.specs.Quota.{natOf}
-use Rattle.quota.proofs.Word.{below-one, from-one, castable-one, told}
+use Rattle.base.proofs.Signed.{told}
+use Rattle.quota.proofs.Word.{below-one, from-one, castable-one}
 use Rattle.scheduler.proofs.sound.Laws.{quota-over, quota-none, quota-fits}
 use Rattle.scheduler.proofs.sound.quota_ok.Statement.{statement}
 use Rattle.scheduler.proofs.sound.quota_ok.Tie as tie
@@ -21,7 +22,7 @@ returns c = quota-over _ _ _ (c .if1 .taken)
 -- the test, of the allotment itself
 below : {b : Bool} (s : tie.Start) → ltZ (toZ w32 (ofZ w32 (s .args .allotment))) (toZ w32 (ofZ w32 (pos 1))) ≡ b
     → ltZ (s .args .allotment) (pos 1) ≡ b
-below s e = told (s .args .allotment) (pos 1) (s .fits .allotment) (record { sfits = omega arith }) e
+below s e = told w32 (s .args .allotment) (pos 1) (s .fits .allotment) (record { sfits = omega arith }) e
 
 some : (c : tie.Else2) → 1 ≤ natOf (c .before .before .args .allotment)
 some c = from-one _ (below (c .before .before) (c .if2 .left))
