@@ -1,7 +1,7 @@
 // The calls on the scheduler at the boundary. The state goes by value; an answer is its numbers with the state after the call.
 ghost use mathlib.Core.Path.{_≡_};
 ghost use Rattle.scheduler.specs.Sound.{sound};
-ghost use Rattle.scheduler.specs.Refusals.{openGroup, closeGroup, admit, remove, wake, dispatch, report};
+ghost use Rattle.scheduler.specs.Refusals.{openGroup, closeGroup, admit, remove, wake, dispatch, report, change};
 ghost use Rattle.scheduler.specs.Rule.{step, startReply};
 ghost use Rattle.scheduler.specs.Answers.{replyOf};
 ghost use Rattle.scheduler.specs.Tree.{totalOf};
@@ -145,6 +145,18 @@ pub extern "C" fn mtr_by_value_report(state: Scheduler, reason: u64, used: u64) 
     ensures { λ r. ⌜ r ≡ replyOut (step (report reason used) state) ⌝ }
 {
     handed(state.report(reason, used))
+}
+
+// Changes the reservation of a thread that does not run, in thousandths. The thread keeps its place in the list, and stays blocked if it is;
+// its allotment is cut to the new quantum if it is larger and never raised; its lag is counted afresh from here, and its share goes on.
+// Refused: 16, the state is not sound; 7, the number is above 63 or not admitted; 9, the thread is running; 4, the reservation is outside 1
+// to 1000; 5, the reservation exceeds what the thread's group has free, its old reservation counted as free. The state is then unchanged.
+// Accepted, every other thread is unchanged, and so are the list and the groups.
+#[no_mangle]
+pub extern "C" fn mtr_by_value_change(state: Scheduler, number: u64, reservation: u64) -> Reply
+    ensures { λ r. ⌜ r ≡ replyOut (step (change number reservation) state) ⌝ }
+{
+    handed(state.change(number, reservation))
 }
 
 // Answers 1 if the state is sound, else 0. Refused: nothing. The state is unchanged.

@@ -2,7 +2,7 @@
 -- a new definition has its place.
 use Rattle.base.specs.Checks.{within, firstOf}
 use Rattle.base.specs.Lists.{member, distinct, without, everyOf, everyBelow, sumBelow, first, passed}
-use Rattle.quota.specs.Quota.{natOf, leftOf, isUsedUp, afterReport}
+use Rattle.quota.specs.Quota.{natOf, leftOf, isUsedUp, afterReport, cutTo}
 use Rattle.scheduler.specs.State.{
   admittedAt,
   blockedAt,
@@ -34,7 +34,7 @@ use Rattle.scheduler.specs.Sound.{
   shapeOk,
   sound,
 }
-use Rattle.scheduler.specs.Refusals.{free, inUse, checks, refusal, startRefusal}
+use Rattle.scheduler.specs.Refusals.{free, roomFor, inUse, checks, refusal, startRefusal}
 use Rattle.scheduler.specs.Effects.{
   rear,
   toRear,
@@ -42,6 +42,7 @@ use Rattle.scheduler.specs.Effects.{
   join,
   newThread,
   wokenThread,
+  changedThread,
   usedUp,
   renewed,
   allotmentAfter,
@@ -57,6 +58,7 @@ use Rattle.scheduler.specs.Effects.{
 use Rattle.scheduler.specs.Rule.{isDispatch, accept, refuse, step}
 use Rattle.scheduler.specs.Stretch.{
   keeps,
+  retains,
   trace,
   final,
   accepted,
@@ -94,11 +96,11 @@ unfolding leftOf isUsedUp afterReport usedUp renewed allotmentAfter chargedThrea
 charges = tt
 
 unfoldable pub effects : Unit {0}
-unfolding rear toRear offList join newThread wokenThread chosen passedOver effect started
+unfolding rear toRear offList join newThread wokenThread cutTo changedThread chosen passedOver effect started
 effects = tt
 
 unfoldable pub calls : Unit {0}
-unfolding step refusal checks free inUse isDispatch accept refuse startRefusal
+unfolding step refusal checks free roomFor inUse isDispatch accept refuse startRefusal
 calls = tt
 
 unfoldable pub sums : Unit {0}
@@ -106,7 +108,7 @@ unfolding ticksOf overrunOf sumIn ticksIn overrunsIn allTicks ticksBy overrunsBe
 sums = tt
 
 unfoldable pub stretches : Unit {0}
-unfolding trace final throughout keeps accepted named
+unfolding trace final throughout keeps retains accepted named
 stretches = tt
 
 unfoldable pub computes : Unit {0}

@@ -11,7 +11,8 @@ use Rattle.scheduler.specs.State.{allotmentAt, withThread}
 use Rattle.scheduler.specs.Sound.{sound}
 use Rattle.scheduler.specs.Refusals.{Call, admit, wake, dispatch, report, startRefusal}
 use Rattle.scheduler.specs.Effects.{started}
-use Rattle.scheduler.specs.Stretch.{trace, final, allTicks, ticksBy, overrunsBeside, overrunsBy, Protected, Present, Owed, Second}
+use Rattle.scheduler.specs.Stretch.{trace, final, allTicks, ticksBy, overrunsBeside, overrunsBy, Protected, Present, Owed}
+use Rattle.scheduler.specs.Stretch.{Unchanged, Second}
 use Rattle.scheduler.proofs.Computes.{computes}
 use Rattle.scheduler.proofs.Guarantee.{owed, second}
 
@@ -35,7 +36,7 @@ two-sound = tt
 
 seven : Protected two rest 7
 unfolding computes calls two rest
-seven = record { reserved = tt; runnable = tt; keeps = tt }
+seven = record { reserved = tt; runnable = tt; keeps = tt; unchanged = tt }
 
 five : Present two rest 5
 unfolding computes calls two rest
@@ -47,8 +48,12 @@ sums : (allTicks (two .running) (trace two rest) ≡ 60000) × (ticksBy 7 (two .
 unfolding computes calls two rest
 sums = (refl, refl, refl)
 
+steady : Unchanged two rest 5
+unfolding computes calls two rest
+steady = tt
+
 pub shared : Owed two rest 7 × Second two rest 7 5
-shared = (owed two two-sound rest 7 seven, second two two-sound rest 7 5 seven five)
+shared = (owed two two-sound rest 7 seven, second two two-sound rest 7 5 seven five steady)
 
 -- A timer that fires late: m = 10, P = 1000, O = 9, and a thread of 10, so that its quantum is 100. Its first slice is 100. A report of
 -- 109, the most, leaves a debt of 9, so the next slice is 91; a yield after 95 of these, a debt of 4, leaves 96.
@@ -99,7 +104,7 @@ tardy-sound = tt
 
 seven-late : Protected tardy overdue 7
 unfolding computes tardy overdue
-seven-late = record { reserved = tt; runnable = tt; keeps = tt }
+seven-late = record { reserved = tt; runnable = tt; keeps = tt; unchanged = tt }
 
 five-late : Present tardy overdue 5
 unfolding computes tardy overdue
@@ -123,5 +128,9 @@ debts : (allotmentAt (final tardy overdue) 5 ≡ 1) × (allotmentAt (final tardy
 unfolding computes tardy overdue
 debts = (refl, refl)
 
+steady-late : Unchanged tardy overdue 5
+unfolding computes tardy overdue
+steady-late = tt
+
 pub shared-late : Owed tardy overdue 7 × Second tardy overdue 7 5
-shared-late = (owed tardy tardy-sound overdue 7 seven-late, second tardy tardy-sound overdue 7 5 seven-late five-late)
+shared-late = (owed tardy tardy-sound overdue 7 seven-late, second tardy tardy-sound overdue 7 5 seven-late five-late steady-late)

@@ -18,7 +18,7 @@ use Rattle.scheduler.specs.Sound.{sound}
 use Rattle.scheduler.specs.Refusals.{Call}
 use Rattle.scheduler.specs.Stretch.{Event, trace, final, accepted, ticksOf, named, sumIn, ticksIn, overrunsIn, anyone, allTicks}
 use Rattle.scheduler.specs.Stretch.{ticksBy, overrunsBeside, overrunsBy, throughout, keepsRunnable, keepsAdmitted, Protected, Present}
-use Rattle.scheduler.specs.Stretch.{Owed, Second}
+use Rattle.scheduler.specs.Stretch.{Unchanged, Owed, Second}
 use Rattle.scheduler.proofs.Facts.{Facts, facts, member-reserved, below-quantum, below-whole}
 use Rattle.scheduler.proofs.Share.Gauge.{gauge}
 use Rattle.scheduler.proofs.Share.Step.{weight, potential, Guarded}
@@ -133,7 +133,7 @@ others x f s t k r =
       k .amount,
     )
 
--- What x is owed: every other thread counts, at the rate 1000 − f.
+-- What x is owed: every other thread counts, at the rate 1000 − f. Nothing is asked of the others, who may change their reservations.
 pub owed : (s : Scheduler) → T (sound s) → (cs : List Call) (x : ℕ) → Protected s cs x → Owed s cs x
 unfolding allTicks ticksBy overrunsBeside potential Bound
 owed s t cs x px =
@@ -152,7 +152,7 @@ owed s t cs x px =
     throughout-map (keepsRunnable x) (keepsAdmitted x) (runnable-admitted x) last es (px .keeps) in
     let sums : f * ticksIn sel last es + potential f h sel x (final s cs) ≤ potential f h sel x s + h * ticksIn (λ n. eqb n x) last es
     + f * overrunsIn sel last es =
-    stretch f f h sel x x (ap not (eq-eqb x x refl)) (others x f) cs s last (λ _. refl) guard res (px .keeps) stays in
+    stretch f f h sel x x (ap not (eq-eqb x x refl)) (others x f) cs s last (λ _. refl) guard res (px .keeps) (px .unchanged) stays (px .unchanged) in
     let w = mul-le-mul-left f (weight-all s k sel x h (others x f s t guard res)) in
     let all = owed-all f h m p (ticksIn anyone last es) (ticksIn sel last es) (ticksIn (λ n. eqb n x) last es) (weight sel x s)
     (f * m - allotmentAt s x) (overrunsIn sel last es) (omega arith) (ticks-split x last es) (sub-le (f * m) (allotmentAt s x))
@@ -167,9 +167,9 @@ alone y g s t r =
     (sumOf-once y (reservationAt s) (listed s) ((facts s t) .once))
 
 second-apart : (s : Scheduler) → T (sound s) → (cs : List Call) (x y : ℕ) → (x ≡ y → ⊥) → Protected s cs x → Present s cs y
-    → Second s cs x y
+    → Unchanged s cs y → Second s cs x y
 unfolding ticksBy overrunsBy potential Bound
-second-apart s t cs x y apart px py =
+second-apart s t cs x y apart px py same =
     let f = reservationAt s x in
     let g = reservationAt s y in
     let m = s .settings .thousandth in
@@ -181,17 +181,19 @@ second-apart s t cs x y apart px py =
     let res : Reserved g y s = record { reserved = py .reserved; amount = refl } in
     let sums : f * ticksIn sel last es + potential f g sel x (final s cs) ≤ potential f g sel x s + g * ticksIn (λ n. eqb n x) last es
     + f * overrunsIn sel last es =
-    stretch f g g sel x y (ne-eqb x y apart) (λ s t _ r. alone y g s t r) cs s last (λ _. refl) guard res (px .keeps) (py .keeps) in
+    stretch f g g sel x y (ne-eqb x y apart) (λ s t _ r. alone y g s t r) cs s last (λ _. refl) guard res (px .keeps) (px .unchanged)
+    (py .keeps) same in
     let w = mul-le-mul-left f (weight-one s k x y g (py .reserved) refl) in
     let one = owed-one f g m (ticksIn sel last es) (ticksIn (λ n. eqb n x) last es) (weight sel x s) (f * m - allotmentAt s x)
     (overrunsIn sel last es) (sub-le (f * m) (allotmentAt s x)) (omega (arith, sums)) w in
     omega (arith, one)
 
-pub second : (s : Scheduler) → T (sound s) → (cs : List Call) (x y : ℕ) → Protected s cs x → Present s cs y → Second s cs x y
-second s t cs x y px py =
+pub second : (s : Scheduler) → T (sound s) → (cs : List Call) (x y : ℕ) → Protected s cs x → Present s cs y → Unchanged s cs y
+    → Second s cs x y
+second s t cs x y px py same =
     by (λ b. eqb x y ≡ b → Second s cs x y) (eqb x y)
     (λ e _. subst (λ (z : ℕ). Second s cs x z) (eqb-true x y e) (omega arith))
-    (λ e _. second-apart s t cs x y (eqb-false x y e) px py)
+    (λ e _. second-apart s t cs x y (eqb-false x y e) px py same)
     refl
 
 -- With an overrun limit of 0 the overruns are 0, and the two limits stand without them.
@@ -207,10 +209,10 @@ owed-punctual s t never cs x px =
     omega (arith, o)
 
 pub second-punctual : (s : Scheduler) → T (sound s) → s .settings .overrun ≡ 0 → (cs : List Call) (x y : ℕ) → Protected s cs x
-    → Present s cs y
+    → Present s cs y → Unchanged s cs y
     → reservationAt s x * ticksBy y (s .running) (trace s cs)
     ≤ reservationAt s y * ticksBy x (s .running) (trace s cs) + 2 * reservationAt s x * reservationAt s y * s .settings .thousandth
 unfolding overrunsBy
-second-punctual s t never cs x y px py =
-    let o = rw (punctual cs s never (λ n. eqb n y) (s .running)) at (second s t cs x y px py) in
+second-punctual s t never cs x y px py same =
+    let o = rw (punctual cs s never (λ n. eqb n y) (s .running)) at (second s t cs x y px py same) in
     omega (arith, o)

@@ -1,17 +1,17 @@
--- RULE 2, its list facts as theorems about `step` and `effect`: mutual order, place and allotment, wake, idle, the count before the
+-- RULE 2, its list facts as theorems about `step` and `effect`: mutual order, place and allotment, wake, change, idle, the count before the
 -- chosen thread; and RULE 4.2, where the anchor is set. Each goes by the facts of a sound state and the laws of the one list it changes.
-use Prim.Native.Nat.{ℕ, _+_, _-_, _*_, _≤_, _<_}
-use mathlib.Core.Path.{_≡_, refl, ap, _∙_}
+use Prim.Native.Nat.{ℕ, _+_, _-_, _*_, min, _≤_, _<_}
+use mathlib.Core.Path.{_≡_, refl, sym, ap, subst, _∙_}
 use mathlib.Core.List.{[], _∷_, _++_}
-use mathlib.Core.Bool.{Bool, true, false, not, _&&_, _||_}
+use mathlib.Core.Bool.{Bool, true, false, not, cond, _&&_, _||_}
 use native.Mathlib.Omega.{arith}
-use native.Mathlib.Nat.{sub-self, mul-zero}
+use native.Mathlib.Nat.{sub-self, mul-zero, min-le-left, min-le-right}
 use lib.ListN.{length, getD, take}
 use lib.Dec.{T, T-not, ltb, eqb, ltb→lt}
 use borrow.Author.Tests.{eqb-true, eqb-false, ne-eqb, eq-eqb}
 use lib.IntN.{pos, subℕ, _+ℤ_, _-ℤ_}
 use Rattle.base.specs.Lists.{member, without, everyOf}
-use Rattle.base.proofs.Bools.{cases, and-l, isn't, holds}
+use Rattle.base.proofs.Bools.{by, cases, and-l, isn't, holds}
 use Rattle.base.proofs.Lists.{before, everyOf-at, everyOf-map, passed-before, passed-at, passed-all, first-none, without-snoc}
 use Rattle.base.proofs.Lists.{without-twice, member-take}
 use Rattle.scheduler.specs.declared.Thread.{Thread}
@@ -19,16 +19,17 @@ use Rattle.scheduler.specs.declared.Scheduler.{Scheduler}
 use Rattle.scheduler.specs.State.{threadAt, admittedAt, blockedAt, runnableAt, reservedAt, allotmentAt, listed, withThread, withGroup}
 use Rattle.quota.specs.Quota.{natOf, leftOf, afterReport}
 use Rattle.scheduler.specs.State.{withList, withRun, isRunnable, isBlocked, reservationAt, quantum, usedMost}
-use Rattle.scheduler.specs.Refusals.{Call, openGroup, closeGroup, admit, remove, wake, dispatch, report, refusal}
+use Rattle.scheduler.specs.Refusals.{Call, openGroup, closeGroup, admit, remove, wake, dispatch, report, change, refusal}
 use Rattle.scheduler.specs.Effects.{rear, toRear, offList, join, newThread, wokenThread, renewed, chargedThread, charged, exited}
-use Rattle.scheduler.specs.Effects.{usedUp, allotmentAfter, reported, chosen, passedOver, effect}
+use Rattle.scheduler.specs.Effects.{changedThread, usedUp, allotmentAfter, reported, chosen, passedOver, effect}
 use Rattle.scheduler.specs.Rule.{isDispatch, accept, refuse, step}
 use Rattle.scheduler.proofs.Debt.{all-used, still-left, debt-after}
 use Rattle.scheduler.proofs.Facts.{Facts, facts, reserved-admitted, admitted-reserved, in-threads, member-admitted, fits, take-rear}
-use Rattle.scheduler.proofs.Facts.{take-off, room, listed-join, thread-same, unlisted}
-use Rattle.scheduler.proofs.Passed.{passes, admit-passed, remove-passed, wake-passed, report-passed, reported-rear, reported-cases}
+use Rattle.scheduler.proofs.Facts.{take-off, room, listed-join, thread-same, thread-other, unlisted}
+use Rattle.scheduler.proofs.Passed.{passes, admit-passed, remove-passed, wake-passed, report-passed, change-ok, reported-rear}
+use Rattle.scheduler.proofs.Passed.{reported-cases}
 use Rattle.scheduler.proofs.Steps.{step-state, refused-state, woken-listed, chosen-runnable, after-fits, charged-left}
-use Rattle.scheduler.proofs.Steps.{woken-allotment}
+use Rattle.scheduler.proofs.Steps.{woken-allotment, allotment-other, changed-allotment}
 use Rattle.scheduler.specs.Accounts.{lagOf}
 
 -- the thread that a call puts into the list, takes off it or may move, or 64
@@ -40,6 +41,7 @@ mover (remove n) s = n
 mover (wake n) s = 64
 mover dispatch s = 64
 mover (report reason used) s = s .running
+mover (change n f) s = 64
 
 kept-off : (s : Scheduler) → Facts s → (r : ℕ) → T (reservedAt s r) → without r (take (s .count - 1) (rear s r)) ≡ without r (listed s)
 unfolding rear listed
@@ -81,6 +83,7 @@ kept-accepted (report reason used) s e =
     let k = facts s (ok .0) in
     kept-report s k (s .running) reason used (admitted-reserved s (s .running)
     ((k .run ((report-passed s reason used (ok .1)) .0)) .admitted))
+kept-accepted (change n f) s e = refl
 
 -- RULE 2.10: the list without the one thread that a call adds, takes off or moves is the same before and after it, refused or not.
 pub mutual-order : (c : Call) (s : Scheduler) → without (mover c s) (listed ((step c s) .state)) ≡ without (mover c s) (listed s)
@@ -187,6 +190,39 @@ wake-keeps n s e =
     let ok = passes (wake n) s e in
     (woken-listed n s, woken-allotment s (facts s (ok .0)) n (wake-passed s n (ok .1)))
 
+-- RULE 2.11: the list stays as it is, and so does every other entry; the allotment is the smaller of what it was and the new quantum.
+pub change-keeps : (n d : ℕ) (s : Scheduler) → refusal (change n d) s ≡ 0
+    → (listed (effect (change n d) s) ≡ listed s)
+    × (allotmentAt (effect (change n d) s) n ≡ min (allotmentAt s n) (quantum s d))
+    × ((j : ℕ) → (j ≡ n → ⊥) → threadAt (effect (change n d) s) j ≡ threadAt s j)
+unfolding effect listed withThread
+change-keeps n d s e =
+    let ok = passes (change n d) s e in
+    let a = reserved-admitted s n ((change-ok s n d (ok .1)) .reserved) in
+    (
+      refl,
+      changed-allotment s n d (in-threads s (facts s (ok .0)) n a),
+      thread-other s n (changedThread s d (threadAt s n)),
+    )
+
+-- So no allotment is raised, of whatever thread, and the thread's own is within its new quantum.
+pub never-raised : (n d : ℕ) (s : Scheduler) → refusal (change n d) s ≡ 0
+    → ((j : ℕ) → allotmentAt (effect (change n d) s) j ≤ allotmentAt s j) × (allotmentAt (effect (change n d) s) n ≤ quantum s d)
+unfolding allotmentAt
+never-raised n d s e =
+    let k = change-keeps n d s e in
+    let cut = k .1 in
+    (
+      λ j.
+          by (λ b. eqb j n ≡ b → allotmentAt (effect (change n d) s) j ≤ allotmentAt s j) (eqb j n)
+          (λ q _.
+          subst (λ (i : ℕ). allotmentAt (effect (change n d) s) i ≤ allotmentAt s i) (sym (eqb-true j n q))
+          (omega (arith, cut, min-le-left (allotmentAt s n) (quantum s d))))
+          (λ q _. omega (arith, ap (λ (t : Thread). natOf (t .allotment)) (k .2 j (eqb-false j n q))))
+          refl,
+      omega (arith, cut, min-le-right (allotmentAt s n) (quantum s d)),
+    )
+
 below-64 : (s : Scheduler) → Facts s → T (everyOf (λ n. ltb n 64) (listed s))
 below-64 s k =
     everyOf-map (λ n. ltb n 64 && reservedAt s n) (λ n. ltb n 64) (listed s) (λ j _ u. and-l (ltb j 64) (reservedAt s j) u) (k .members)
@@ -252,7 +288,7 @@ idle-length s e idle =
     let none = first-none (runnableAt s) (listed s) (below-64 s k) (rw (step-state dispatch s e) at idle) in
     rw (step-state dispatch s e) (passed-all (runnableAt s) (listed s) none)
 
--- RULE 4.2: the anchor is set at admission, at a wake and at a yield, since the lag is then 0.
+-- RULE 4.2: the anchor is set at admission, at a wake, at a yield and at a change, since the lag is then 0.
 still : (f m : ℕ) → subℕ (f * (m - m)) (1000 * 0) ≡ pos 0
 still f m = rw (sub-self m, mul-zero f) refl
 
@@ -281,3 +317,15 @@ yield-lag used s e =
     let a = (k .run ((report-passed s 2 used (ok .1)) .0)) .admitted in
     rw (thread-same s (s .running) (chargedThread s 2 used (threadAt s (s .running))) (in-threads s k (s .running) a))
     (still ((threadAt s (s .running)) .reservation) (s .meter + used))
+
+pub change-lag : (n d : ℕ) (s : Scheduler) → refusal (change n d) s ≡ 0
+    → lagOf ((effect (change n d) s) .meter) (threadAt (effect (change n d) s) n) ≡ pos 0
+unfolding effect withThread changedThread lagOf
+change-lag n d s e =
+    let ok = passes (change n d) s e in
+    let a = reserved-admitted s n ((change-ok s n d (ok .1)) .reserved) in
+    rw (thread-same s n (changedThread s d (threadAt s n)) (in-threads s (facts s (ok .0)) n a)) (blocked (isBlocked (threadAt s n)))
+  where
+    blocked : (b : Bool) → cond b (pos 0) (subℕ (d * (s .meter - s .meter)) (1000 * 0)) ≡ pos 0
+    blocked true = refl
+    blocked false = still d (s .meter)

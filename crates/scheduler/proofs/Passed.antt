@@ -11,10 +11,10 @@ use Rattle.base.specs.Checks.{within, _⇒_, firstOf}
 use Rattle.base.specs.Lists.{everyBelow}
 use Rattle.base.proofs.Bools.{cases, and-l, and-r, holds, or-false-l, or-false-r}
 use Rattle.scheduler.specs.declared.Scheduler.{Scheduler}
-use Rattle.scheduler.specs.State.{threadAt, admittedAt, openAt, usedMost, meterLimit}
+use Rattle.scheduler.specs.State.{threadAt, admittedAt, reservedAt, openAt, usedMost, meterLimit}
 use Rattle.scheduler.specs.Sound.{settingsOk, threadIn, childOf, sound}
-use Rattle.scheduler.specs.Refusals.{Call, openGroup, closeGroup, admit, remove, wake, dispatch, report, free, inUse, checks, refusal}
-use Rattle.scheduler.specs.Refusals.{startRefusal}
+use Rattle.scheduler.specs.Refusals.{Call, openGroup, closeGroup, admit, remove, wake, dispatch, report, change, free, roomFor}
+use Rattle.scheduler.specs.Refusals.{inUse, checks, refusal, startRefusal}
 use Rattle.scheduler.specs.Effects.{toRear, renewed, charged, exited, reported}
 use Rattle.scheduler.proofs.Facts.{peel}
 
@@ -96,6 +96,29 @@ admit-ok s n g d e =
       positive = leb→le 1 d (and-l (leb 1 d) (leb d 1000) w);
       at-most = leb→le d 1000 (and-r (leb 1 d) (leb d 1000) w);
       fits-in = ltb-false (free s g) d (c5 .0);
+    }
+
+pub record ChangeOk (s : Scheduler) (n d : ℕ) : Type 0 where
+  pub reserved : T (reservedAt s n)
+  pub waits : n ≡ s .running → ⊥
+  pub positive : 1 ≤ d
+  pub at-most : d ≤ 1000
+  pub fits-in : d ≤ roomFor s n
+
+pub change-ok : (s : Scheduler) (n d : ℕ) → firstOf (checks (change n d) s) ≡ 0 → ChangeOk s n d
+unfolding checks within
+change-ok s n d e =
+    let c1 = peel (ltb 63 n || not (reservedAt s n) ⇒ 7) _ (lit< tt) e in
+    let c2 = peel (eqb (s .running) n ⇒ 9) _ (lit< tt) (c1 .1) in
+    let c3 = peel (not (within 1 1000 d) ⇒ 4) _ (lit< tt) (c2 .1) in
+    let c4 = peel (ltb (roomFor s n) d ⇒ 5) _ (lit< tt) (c3 .1) in
+    let w = holds (leb 1 d && leb d 1000) (not-false (leb 1 d && leb d 1000) (c3 .0)) in
+    record {
+      reserved = holds (reservedAt s n) (not-false (reservedAt s n) (or-false-r (ltb 63 n) (not (reservedAt s n)) (c1 .0)));
+      waits = λ z. eqb-false (s .running) n (c2 .0) (sym z);
+      positive = leb→le 1 d (and-l (leb 1 d) (leb d 1000) w);
+      at-most = leb→le d 1000 (and-r (leb 1 d) (leb d 1000) w);
+      fits-in = ltb-false (roomFor s n) d (c4 .0);
     }
 
 pub record OpenOk (s : Scheduler) (n p d : ℕ) : Type 0 where

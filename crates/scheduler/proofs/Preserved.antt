@@ -1,5 +1,6 @@
 -- Every accepted call keeps a state sound (`preserved`), so every call does (`stays-sound`); a start returns a sound state. Opening and
--- closing a group go here, by the facts of the state before it with one group replaced; the other calls in Soundness.Calls.
+-- closing a group go here, by the facts of the state before it with one group replaced; the other calls in Soundness.Calls and
+-- Soundness.Reservation.
 use Prim.Native.Nat.{ℕ, _+_, _-_, _≤_, _<_}
 use mathlib.Core.Path.{_≡_, refl, sym, ap, subst, _∙_}
 use mathlib.Core.Bool.{Bool, true, false, not, cond, _&&_, and-false}
@@ -16,15 +17,17 @@ use Rattle.scheduler.specs.declared.Scheduler.{Scheduler}
 use Rattle.scheduler.specs.State.{noGroup, threadAt, groupAt, admittedAt, reservedAt, runnableAt, reservationAt, openAt, listed}
 use Rattle.scheduler.specs.State.{usedMost, withGroup, isOpen}
 use Rattle.scheduler.specs.Sound.{settingsOk, load, threadIn, childOf, reservedIn, ceilingsIn, shapeOk, sound}
-use Rattle.scheduler.specs.Refusals.{Call, openGroup, closeGroup, admit, remove, wake, dispatch, report, free, refusal, startRefusal}
+use Rattle.scheduler.specs.Refusals.{Call, openGroup, closeGroup, admit, remove, wake, dispatch, report, change, free, refusal}
+use Rattle.scheduler.specs.Refusals.{startRefusal}
 use Rattle.scheduler.specs.Effects.{effect, started, unstarted}
 use Rattle.scheduler.specs.Rule.{accept, refuse, step, startReply}
 use Rattle.scheduler.proofs.Facts.{GroupFacts, Facts, facts, sound-of, open-small, carries}
 use Rattle.scheduler.proofs.Passed.{passes, remove-passed, wake-passed, report-passed, admit-ok, OpenOk, open-ok, CloseOk, close-ok}
-use Rattle.scheduler.proofs.Passed.{dispatch-early, start-passed}
+use Rattle.scheduler.proofs.Passed.{dispatch-early, change-ok, start-passed}
 use Rattle.scheduler.proofs.Computes.{lists, soundness}
 use Rattle.scheduler.proofs.Tree.{carried}
 use Rattle.scheduler.proofs.Soundness.Calls.{wake-facts, remove-facts, report-facts, dispatch-facts, admit-facts}
+use Rattle.scheduler.proofs.Soundness.Reservation.{change-facts}
 use Rattle.scheduler.proofs.Steps.{step-state, refused-state}
 
 -- what group i adds to the load of group g
@@ -273,6 +276,9 @@ preserved c s e = sound-of (effect c s) (go c e)
         let ok = passes (report reason used) s e in
         let c = report-passed s reason used (ok .1) in
         report-kept s (facts s (ok .0)) reason used (c .0) (c .1)
+    go (change n d) e =
+        let ok = passes (change n d) s e in
+        change-facts s (facts s (ok .0)) n d (change-ok s n d (ok .1))
 
 -- So a sound state stays sound through every call, accepted or refused.
 pub stays-sound : (c : Call) (s : Scheduler) → T (sound s) → T (sound ((step c s) .state))

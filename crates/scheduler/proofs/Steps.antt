@@ -1,6 +1,6 @@
 -- Small laws of the definitions: the state after a call, accepted or refused, by cases on its refusal; the meter after a call, the list
--- after a wake, the chosen thread, the most that a report may use; and a thread's allotment and slice after a thread is replaced, charged
--- or woken, read off the table.
+-- after a wake, the chosen thread, the most that a report may use; and a thread's allotment and slice after a thread is replaced, charged,
+-- woken or changed, read off the table.
 use Prim.Native.Nat.{ℕ, _+_, _-_, _*_, min, _≤_, _<_}
 use mathlib.Core.Path.{_≡_, refl, ap, _∙_}
 use mathlib.Core.Bool.{true, false, cond}
@@ -15,11 +15,12 @@ use Rattle.base.proofs.Lists.{first-found}
 use Rattle.scheduler.specs.declared.Thread.{Thread}
 use Rattle.scheduler.specs.declared.Scheduler.{Scheduler}
 use Rattle.quota.specs.Quota.{natOf}
-use Rattle.scheduler.specs.State.{threadAt, admittedAt, runnableAt, reservationAt, allotmentAt, listed, sliceAt, usedMost}
-use Rattle.scheduler.specs.State.{reservedAt, chargeMost, withThread, withGroup, withList, withRun}
-use Rattle.scheduler.specs.Refusals.{Call, openGroup, closeGroup, admit, remove, wake, dispatch, report, refusal}
+use Rattle.quota.proofs.Debt.{cut-nat}
+use Rattle.scheduler.specs.State.{threadAt, admittedAt, runnableAt, reservationAt, allotmentAt, quantum, listed, sliceAt}
+use Rattle.scheduler.specs.State.{usedMost, reservedAt, chargeMost, withThread, withGroup, withList, withRun}
+use Rattle.scheduler.specs.Refusals.{Call, openGroup, closeGroup, admit, remove, wake, dispatch, report, change, refusal}
 use Rattle.scheduler.specs.Effects.{toRear, offList, join, wokenThread, usedUp, renewed, chargedThread, charged, exited, chosen}
-use Rattle.scheduler.specs.Effects.{allotmentAfter, effect}
+use Rattle.scheduler.specs.Effects.{allotmentAfter, changedThread, effect}
 use Rattle.scheduler.specs.Rule.{accept, refuse, step}
 use Rattle.scheduler.specs.Stretch.{ticksOf}
 use Rattle.scheduler.proofs.Debt.{used-most, used-less, after-nat, debt-after, kept-after}
@@ -51,6 +52,7 @@ meter-step (wake n) s = omega arith
 meter-step dispatch s = omega arith
 meter-step (report reason used) s =
     reported-cases (λ s′. s′ .meter ≡ s .meter + used) (s .running) reason used s (λ _. refl) (λ _ _. refl) (λ _ _. refl)
+meter-step (change n f) s = omega arith
 
 -- a wake leaves the list as it was
 pub woken-listed : (n : ℕ) (s : Scheduler) → listed (effect (wake n) s) ≡ listed s
@@ -140,3 +142,9 @@ woken-allotment s k n a j =
     (λ e _. rw (eqb-true j n e) (allotment-same s n (wokenThread s (threadAt s n)) (in-threads s k n a)))
     (λ e _. allotment-other s n (wokenThread s (threadAt s n)) j (eqb-false j n e))
     refl
+
+-- the changed thread: the smaller of what it had and the new quantum
+pub changed-allotment : (s : Scheduler) (n d : ℕ) → n < length (s .threads)
+    → allotmentAt (withThread s n (changedThread s d (threadAt s n))) n ≡ min (allotmentAt s n) (quantum s d)
+unfolding changedThread allotmentAt
+changed-allotment s n d h = allotment-same s n (changedThread s d (threadAt s n)) h ∙ cut-nat (quantum s d) ((threadAt s n) .allotment)

@@ -5,13 +5,13 @@ use mathlib.Core.Bool.{Bool, cond, _||_}
 use lib.ListN.{drop, set, replicate}
 use lib.Dec.{eqb}
 use lib.IntN.{ℤ, pos}
-use Rattle.quota.specs.Quota.{isUsedUp, afterReport}
+use Rattle.quota.specs.Quota.{isUsedUp, afterReport, cutTo}
 use Rattle.base.specs.Lists.{without, first, passed}
 use Rattle.scheduler.specs.declared.Thread.{Thread}
 use Rattle.scheduler.specs.declared.Scheduler.{Scheduler}
 use Rattle.scheduler.specs.State.{noThread, noGroup, stateOf, threadAt, runnableAt, quantum, listed, withThread, withGroup, withList}
 use Rattle.scheduler.specs.State.{withRun}
-use Rattle.scheduler.specs.Refusals.{Call, openGroup, closeGroup, admit, remove, wake, dispatch, report}
+use Rattle.scheduler.specs.Refusals.{Call, openGroup, closeGroup, admit, remove, wake, dispatch, report, change}
 
 -- moved to the rear: the others keep their mutual order (RULE 2.10), and so does what stands past the list's end
 unfoldable pub rear : Scheduler → ℕ → List ℕ
@@ -52,6 +52,19 @@ wokenThread s t = record {
   reservation = t .reservation;
   group = t .group;
   status = 1;
+}
+
+-- RULE 2.11: another reservation, with the allotment cut to its quantum; its anchor is set
+unfoldable pub changedThread : Scheduler → ℕ → Thread → Thread
+changedThread s f t = record {
+  admission = t .admission;
+  anchor = s .meter;
+  ticks = t .ticks;
+  since = 0;
+  allotment = cutTo (quantum s f) (t .allotment);
+  reservation = f;
+  group = t .group;
+  status = t .status;
 }
 
 -- RULE 2.6: nothing is left of the allotment, or a debt
@@ -107,6 +120,7 @@ effect (remove n) s = offList n (withThread s n noThread)
 effect (wake n) s = withThread s n (wokenThread s (threadAt s n))
 effect dispatch s = withRun s (chosen s) (s .meter)
 effect (report reason used) s = reported (s .running) reason used s
+effect (change n f) s = withThread s n (changedThread s f (threadAt s n))
 
 -- RULE 6.6: the state of an accepted start
 unfoldable pub started : ℕ → ℕ → ℕ → Scheduler

@@ -1,16 +1,16 @@
 -- RULE 6.1, 6.4: what each call turns down. Checks run in the order written; the first that applies is the answer, and before all of
 -- them 16, where the state is not sound.
-use Prim.Native.Nat.{ℕ, _-_}
+use Prim.Native.Nat.{ℕ, _+_, _-_}
 use mathlib.Core.List.{List, [], _∷_}
 use mathlib.Core.Bool.{Bool, not, cond, _&&_, _||_}
 use lib.Dec.{ltb, leb, eqb}
 use Rattle.base.specs.Checks.{within, Check, _⇒_, firstOf}
 use Rattle.base.specs.Lists.{everyBelow}
 use Rattle.scheduler.specs.declared.Scheduler.{Scheduler}
-use Rattle.scheduler.specs.State.{groupAt, admittedAt, blockedAt, openAt, usedMost, meterLimit}
+use Rattle.scheduler.specs.State.{threadAt, groupAt, admittedAt, reservedAt, blockedAt, reservationAt, openAt, usedMost, meterLimit}
 use Rattle.scheduler.specs.Sound.{settingsOk, threadIn, childOf, load, sound}
 
--- The seven calls of a stretch. Start makes a state of its own.
+-- The eight calls of a stretch. Start makes a state of its own.
 pub data Call : Type 0 where
   openGroup : (number parent ceiling : ℕ) → Call
   closeGroup : (number : ℕ) → Call
@@ -19,10 +19,15 @@ pub data Call : Type 0 where
   wake : (number : ℕ) → Call
   dispatch : Call
   report : (reason used : ℕ) → Call
+  change : (number reservation : ℕ) → Call
 
 -- RULE 3.3: what a group has left to give
 unfoldable pub free : Scheduler → ℕ → ℕ
 free s g = (groupAt s g) .ceiling - load s g
+
+-- RULE 2.11: and what it has for a thread of its own, whose old reservation counts as free
+unfoldable pub roomFor : Scheduler → ℕ → ℕ
+roomFor s n = free s ((threadAt s n) .group) + reservationAt s n
 
 -- a thread or a child group counts in it
 unfoldable pub inUse : Scheduler → ℕ → Bool
@@ -51,6 +56,12 @@ checks (report reason used) s =
     (eqb (s .running) 64 ⇒ 11)
     ∷ (ltb 3 reason ⇒ 14)
     ∷ (ltb (usedMost s (s .running)) used ⇒ 13)
+    ∷ []
+checks (change n f) s =
+    (ltb 63 n || not (reservedAt s n) ⇒ 7)
+    ∷ (eqb (s .running) n ⇒ 9)
+    ∷ (not (within 1 1000 f) ⇒ 4)
+    ∷ (ltb (roomFor s n) f ⇒ 5)
     ∷ []
 
 -- the refusal's number, or 0

@@ -4,7 +4,7 @@ use mathlib.Core.Bool.{Bool, true, false, cond}
 use lib.Dec.{eqb}
 use Rattle.scheduler.specs.declared.Scheduler.{Scheduler}
 use Rattle.scheduler.specs.State.{sliceAt}
-use Rattle.scheduler.specs.Refusals.{Call, openGroup, closeGroup, admit, remove, wake, dispatch, report, refusal, startRefusal}
+use Rattle.scheduler.specs.Refusals.{Call, openGroup, closeGroup, admit, remove, wake, dispatch, report, change, refusal, startRefusal}
 use Rattle.scheduler.specs.Effects.{chosen, passedOver, effect, started, unstarted}
 
 -- answer: 0 accepted, or the refusal
@@ -23,6 +23,7 @@ isDispatch (remove n) = false
 isDispatch (wake n) = false
 isDispatch dispatch = true
 isDispatch (report r u) = false
+isDispatch (change n f) = false
 
 -- RULE 6.5: thread, slice and threads before it are 0 but for an accepted dispatch; an idle one has 64, 0 and the list's length
 unfoldable pub accept : Call → Scheduler → Reply

@@ -1,4 +1,4 @@
--- RULE 9, the share guarantee: a stretch is a list of the seven calls, each given the state that the call before it handed back; what is
+-- RULE 9, the share guarantee: a stretch is a list of the eight calls, each given the state that the call before it handed back; what is
 -- counted in it, what is asked of its two threads, and the two limits.
 use Prim.Native.Nat.{ℕ, _+_, _-_, _*_, _≤_}
 use mathlib.Core.List.{List, [], _∷_}
@@ -6,7 +6,7 @@ use mathlib.Core.Bool.{Bool, true, not, cond, _&&_, _||_}
 use lib.Dec.{T, eqb}
 use Rattle.scheduler.specs.declared.Scheduler.{Scheduler}
 use Rattle.scheduler.specs.State.{runnableAt, reservedAt, reservationAt, sliceAt}
-use Rattle.scheduler.specs.Refusals.{Call, openGroup, closeGroup, admit, remove, wake, dispatch, report}
+use Rattle.scheduler.specs.Refusals.{Call, openGroup, closeGroup, admit, remove, wake, dispatch, report, change}
 use Rattle.scheduler.specs.Rule.{Reply, step, isDispatch}
 
 -- a call of the stretch, the state that it was given, and its reply
@@ -36,6 +36,7 @@ ticksOf (remove n) = 0
 ticksOf (wake n) = 0
 ticksOf dispatch = 0
 ticksOf (report r u) = u
+ticksOf (change n f) = 0
 
 -- RULE 2.5: the ticks of a report beyond the slice of the thread that ran; of another call 0
 unfoldable pub overrunOf : Event → ℕ
@@ -88,6 +89,18 @@ keeps ok x last (remove n) = not (eqb n x)
 keeps ok x last (wake n) = true
 keeps ok x last dispatch = true
 keeps ok x last (report reason u) = not (eqb last x) || ok reason
+keeps ok x last (change n f) = true
+
+-- a change that names x is to the amount f
+unfoldable pub retains : ℕ → ℕ → ℕ → Call → Bool
+retains f x last (openGroup n p c) = true
+retains f x last (closeGroup n) = true
+retains f x last (admit n g d) = true
+retains f x last (remove n) = true
+retains f x last (wake n) = true
+retains f x last dispatch = true
+retains f x last (report reason u) = true
+retains f x last (change n d) = not (eqb n x) || eqb d f
 
 -- RULE 9.4, 9.5: the reasons that the two threads' own reports may have
 abbrev pub keepsRunnable : ℕ → ℕ → Call → Bool
@@ -96,11 +109,17 @@ keepsRunnable x last c = keeps (λ r. eqb r 0) x last c
 abbrev pub keepsAdmitted : ℕ → ℕ → Call → Bool
 keepsAdmitted y last c = keeps (λ r. not (eqb r 3)) y last c
 
--- RULE 9.4: x stays runnable and does not yield
+-- RULE 9.4, 9.5: the reservation of x is the same at every point of the stretch: every accepted change that names x is to the amount that
+-- it has in the first state
+abbrev pub Unchanged : Scheduler → List Call → ℕ → Type 0
+Unchanged s cs x = T (throughout (retains (reservationAt s x) x) (s .running) (trace s cs))
+
+-- RULE 9.4: x stays runnable, does not yield and keeps its reservation
 pub record Protected (s : Scheduler) (cs : List Call) (x : ℕ) : Type 0 where
   pub reserved : T (reservedAt s x)
   pub runnable : T (runnableAt s x)
   pub keeps : T (throughout (keepsRunnable x) (s .running) (trace s cs))
+  pub unchanged : Unchanged s cs x
 
 -- RULE 9.5: y is admitted throughout
 pub record Present (s : Scheduler) (cs : List Call) (y : ℕ) : Type 0 where

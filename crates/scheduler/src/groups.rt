@@ -147,7 +147,7 @@ fn ceilings_in(groups: [Group; 16], group: u64) -> u64
 }
 
 // The reservations and ceilings in a group, from the table of reservations.
-fn load_of(groups: [Group; 16], reserved: [u32; 16], group: u64) -> u64
+pub(crate) fn load_of(groups: [Group; 16], reserved: [u32; 16], group: u64) -> u64
     ensures { λ r. ⌜ ((s : Scheduler) → s .groups ≡ groups → Sums s reserved → group < 16 → r ≡ load s group) ⌝ }
 {
     if GROUPS <= group {
@@ -159,8 +159,8 @@ fn load_of(groups: [Group; 16], reserved: [u32; 16], group: u64) -> u64
 }
 
 // What a group with a load has free.
-fn free_in(groups: [Group; 16], group: u64, used: u64) -> u64
-    ensures { λ r. ⌜ ((s : Scheduler) → s .groups ≡ groups → (group < 16 → used ≡ load s group) → r ≡ free s group) ⌝ }
+pub(crate) fn free_in(groups: [Group; 16], group: u64, used: u64) -> u64
+    ensures { λ r. ⌜ (r < 65536) × ((s : Scheduler) → s .groups ≡ groups → (group < 16 → used ≡ load s group) → r ≡ free s group) ⌝ }
 {
     if GROUPS <= group {
         return 0;
@@ -174,14 +174,18 @@ fn free_in(groups: [Group; 16], group: u64, used: u64) -> u64
     ceiling - used
 }
 
+// Whether a ceiling or a reservation is outside its range.
+pub(crate) fn outside(amount: u64) -> bool
+    ensures { λ r. ⌜ r ≡ not (within 1 1000 amount) ⌝ }
+{
+    (amount < Scheduler::AMOUNT_LEAST as u64) | ((Scheduler::WHOLE as u64) < amount)
+}
+
 // The number that an amount is refused with, or 0.
 fn amount_code(amount: u64, room: u64) -> u32
     ensures { λ r. ⌜ r ≡ firstOf ((not (within 1 1000 amount) ⇒ 4) ∷ (ltb room amount ⇒ 5) ∷ []) ⌝ }
 {
-    if amount < Scheduler::AMOUNT_LEAST as u64 {
-        return refusal::AMOUNT;
-    }
-    if (Scheduler::WHOLE as u64) < amount {
+    if outside(amount) {
         return refusal::AMOUNT;
     }
     if room < amount {

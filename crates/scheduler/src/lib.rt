@@ -3,6 +3,7 @@ ghost use mathlib.Core.Path.{_≡_};
 ghost use Rattle.scheduler.specs.State.{defaultSettings};
 
 pub mod batch;
+pub mod change;
 pub mod groups;
 pub mod refusal;
 pub mod sound;

@@ -37,7 +37,7 @@ pub const NO_THREAD: u32 = 7;
 // The thread is already admitted.
 pub const ALREADY_ADMITTED: u32 = 8;
 
-// The thread to remove is running.
+// The thread to remove or to change is running.
 pub const THREAD_RUNNING: u32 = 9;
 
 // The thread to wake is not blocked.

@@ -38,6 +38,12 @@ pub fn wake(mut s: Scheduler, number: u64) -> (u32, Scheduler) {
 }
 
 #[inline(never)]
+pub fn change(mut s: Scheduler, number: u64, reservation: u64) -> (u32, Scheduler) {
+    let answer = s.change(number, reservation);
+    (answer, s)
+}
+
+#[inline(never)]
 pub fn dispatch(mut s: Scheduler) -> (Reply, Scheduler) {
     let reply = s.dispatch();
     (reply, s)

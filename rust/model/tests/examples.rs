@@ -385,7 +385,8 @@ fn block_forms() {
         (6, [false; 6]),
         (7, [false, false, true, false, true, false]),
         (8, [false, false, false, true, true, true]),
-        (9, [false; 6]),
+        (9, [true, false, false, true, false, false]),
+        (10, [false; 6]),
         (255, [false; 6]),
     ];
     for (kind, used) in used {

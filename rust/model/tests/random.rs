@@ -13,7 +13,7 @@ use model::rule::{Reply, Scheduler, METER_MAX, NONE};
 mod plain;
 mod wrong;
 use plain::{
-    failing, plain_replay, plain_replay_by, plainly, plainly_sound, report_on_time, slice,
+    directly, failing, plain_replay, plain_replay_by, plainly, plainly_sound, report_on_time, slice,
 };
 
 fn handed_over(s: Scheduler, call: Call) -> (Reply, Scheduler) {
@@ -33,6 +33,10 @@ fn handed_over(s: Scheduler, call: Call) -> (Reply, Scheduler) {
         Call::Wake { number } => by_value::wake(s, number),
         Call::Dispatch => return by_value::dispatch(s),
         Call::Report { reason, used } => by_value::report(s, reason, used),
+        Call::Change {
+            number,
+            reservation,
+        } => by_value::change(s, number, reservation),
     };
     (Reply::plain(answer), s)
 }
@@ -147,6 +151,7 @@ fn calls_on_sound_states() {
                 Call::Wake { .. } => 5,
                 Call::Dispatch => 6,
                 Call::Report { .. } => 7,
+                Call::Change { .. } => 9,
             };
             *answers.entry((kind, reply.answer)).or_default() += 1;
             if let (Call::Report { reason, used }, 0) = (c, reply.answer) {
@@ -159,7 +164,7 @@ fn calls_on_sound_states() {
         }
     }
     assert!(late.iter().flatten().all(|&n| n >= 20), "{late:?}");
-    let want: [(u8, &[u32]); 7] = [
+    let want: [(u8, &[u32]); 8] = [
         (1, &[0, 2, 3, 4, 5]),
         (2, &[0, 2, 6]),
         (3, &[0, 2, 4, 5, 7, 8]),
@@ -167,6 +172,7 @@ fn calls_on_sound_states() {
         (5, &[0, 7, 10]),
         (6, &[0, 12, 15]),
         (7, &[0, 11, 13, 14]),
+        (9, &[0, 4, 5, 7, 9]),
     ];
     for (kind, list) in want {
         let seen: Vec<u32> = answers
@@ -176,6 +182,73 @@ fn calls_on_sound_states() {
             .collect();
         assert_eq!(seen, list, "kind {kind}: {answers:?}");
     }
+}
+
+/// A change is refused as the admission of the same number would be once the
+/// thread is removed, and for nothing else; accepted, it moves nothing.
+#[test]
+fn changes_beside_admissions() {
+    let mut r = Rng::new(14);
+    // Accepted ones: raised, the same, cut; allotment above the new quantum, equal,
+    // below; blocked; with the old reservation not counted they would be refused;
+    // with less free in group 0 or another one above.
+    let mut seen = [0u32; 9];
+    for _ in 0..20_000 {
+        let mut s = sound_state(&mut r);
+        for _ in 0..8 {
+            let c = call(&mut r, &s);
+            let before = s;
+            let answer = apply(&mut s, c).answer;
+            let Call::Change {
+                number,
+                reservation,
+            } = c
+            else {
+                continue;
+            };
+            let mut other = before;
+            let removed = other.remove(number);
+            if removed != 0 {
+                assert_eq!(answer, removed);
+                continue;
+            }
+            let old = before.threads[number as usize];
+            let again = other.admit(number, old.group as u64, reservation);
+            assert_eq!(answer, again);
+            if answer != 0 {
+                continue;
+            }
+            assert_eq!((s.order, s.groups), (before.order, before.groups));
+            let new = s.threads[number as usize];
+            let fresh = other.threads[number as usize];
+            assert_eq!(new.allotment, old.allotment.min(fresh.allotment));
+            assert_eq!((new.anchor, new.since), (fresh.anchor, fresh.since));
+            assert_eq!((new.admission, new.ticks), (old.admission, old.ticks));
+            assert_eq!((new.status, new.group), (old.status, old.group));
+            assert_eq!(s.lag(number), Ok(0));
+            assert_eq!(s.share(number), before.share(number));
+            let (amount, f) = (reservation, old.reservation as u64);
+            let free = |g: u8| {
+                let g = g as usize;
+                before.groups[g].ceiling as u64 - before.taken(g) as u64
+            };
+            let marks = [
+                amount > f,
+                amount == f,
+                amount < f,
+                old.allotment > fresh.allotment,
+                old.allotment == fresh.allotment && amount != f,
+                old.allotment < fresh.allotment,
+                old.status == 2,
+                amount > free(old.group),
+                old.group > 0 && amount > free(before.groups[old.group as usize].parent) + f,
+            ];
+            for (n, mark) in seen.iter_mut().zip(marks) {
+                *n += mark as u32;
+            }
+        }
+    }
+    assert!(seen.iter().all(|&n| n >= 200), "{seen:?}");
 }
 
 /// Without an overrun limit a report is what it was before there were any.
@@ -200,13 +273,15 @@ fn reports_on_time() {
     assert_eq!(seen, [0, 11, 13, 14]);
 }
 
-/// The journal with O taken out of every start: one of the old form.
+/// The journal with O taken out of every start and without changes: one of the
+/// old form.
 fn old_form(journal: &[u8]) -> Vec<u8> {
     let mut input = journal.to_vec();
     for (place, area) in input.chunks_mut(BLOCK).enumerate() {
         let Ok(mut records) = read_block(area, place as u32) else {
             continue;
         };
+        records.retain(|rec| rec.kind != kind::CHANGE);
         for rec in &mut records {
             rec.overrun = 0;
         }
@@ -215,8 +290,8 @@ fn old_form(journal: &[u8]) -> Vec<u8> {
     input
 }
 
-/// A journal with zeros where O stands prints what it printed before there was
-/// such a limit.
+/// A journal with zeros where O stands and without changes prints what it
+/// printed before there were either.
 #[test]
 fn old_journals() {
     let mut r = Rng::new(13);
@@ -228,10 +303,14 @@ fn old_journals() {
         let old = plain_replay_by(
             &input,
             |m, p, _| Scheduler::start(m, p, 0),
-            |s, reason, used| {
-                let (answer, after) = report_on_time(s, reason, used);
-                *s = after;
-                answer
+            |s, c| match c {
+                Call::Report { reason, used } => {
+                    let (answer, after) = report_on_time(s, reason, used);
+                    *s = after;
+                    Reply::plain(answer)
+                }
+                Call::Change { .. } => unreachable!(),
+                _ => directly(s, c),
             },
         );
         assert_eq!(printed, old);
@@ -305,9 +384,26 @@ fn accounts_of_sound_states() {
 }
 
 /// Now and then a call that would end a premise is replaced: ticks are mostly
-/// full, and threads that are first stay.
-fn sparing(r: &mut Rng, s: &Scheduler, call: Call, first: &[bool; 64]) -> Call {
+/// full, and threads that are first stay. A change of one of these, or of the
+/// target alone, mostly keeps its reservation.
+fn sparing(
+    r: &mut Rng,
+    s: &Scheduler,
+    call: Call,
+    first: &[bool; 64],
+    target: Option<u32>,
+) -> Call {
     match call {
+        Call::Change { number, .. } if number < 64 && first[number as usize] => {
+            let spared = target.is_none_or(|t| t as u64 == number);
+            if spared && !r.chance(1, 50) {
+                let reservation = s.threads[number as usize].reservation as u64;
+                return Call::Change {
+                    number,
+                    reservation,
+                };
+            }
+        }
         Call::Report { reason, used } if reason != 0 => {
             let own = s.running < NONE && first[s.running as usize];
             if own && !r.chance(1, 100) {
@@ -348,7 +444,10 @@ struct Stretch {
     /// Ticks beyond a slice: those that count for each thread, and their sum.
     over: [i128; 64],
     v: i128,
+    /// A thread has had another reservation than in the first state.
+    changed: bool,
     checks: [u64; 2],
+    checks_changed: [u64; 2],
     nearest: i128,
 }
 
@@ -362,8 +461,21 @@ impl Stretch {
             w: 0,
             over: [0; 64],
             v: 0,
+            changed: false,
             checks: [0; 2],
+            checks_changed: [0; 2],
             nearest: i128::MAX,
+        }
+    }
+
+    /// An accepted change: to another reservation than in the first state, it ends
+    /// the thread's premises for good, also if it is changed back.
+    fn change(&mut self, number: u64, reservation: u64) {
+        let n = number as usize;
+        if reservation != self.start.threads[n].reservation as u64 {
+            self.changed |= self.first[n] || self.second[n];
+            self.first[n] = false;
+            self.second[n] = false;
         }
     }
 
@@ -387,12 +499,14 @@ impl Stretch {
             assert!(slack >= 0, "first inequality, thread {a}");
             self.nearest = self.nearest.min(slack);
             self.checks[0] += 1;
+            self.checks_changed[0] += self.changed as u64;
             if self.second[n] {
                 assert!(
                     f * self.had[n] <= g * self.had[a] + 2 * f * g * m + f * self.over[n],
                     "second inequality, threads {a} and {n}"
                 );
                 self.checks[1] += 1;
+                self.checks_changed[1] += self.changed as u64;
             }
         }
     }
@@ -403,20 +517,21 @@ impl Stretch {
 #[test]
 fn share_guarantee() {
     let mut r = Rng::new(7);
-    let (mut checks, mut nearest) = ([0u64; 2], i128::MAX);
+    let (mut checks, mut nearest) = ([0u64; 4], i128::MAX);
     for round in 0..4_000 {
         let mut s = sound_state(&mut r);
         let mut stretch = Stretch::new(s);
         // Thread that the next accepted report counts for.
         let mut named = s.running;
         // Every other round calls that end a premise are rare, and in half of
-        // these all others than one thread are late.
+        // these all others than one thread are late and change at will.
         let long = round % 2 == 0;
         let target = s.list().first().copied().unwrap_or(0) as u32;
         for _ in 0..if long { 600 } else { 150 } {
             let mut c = call(&mut r, &s);
             if long {
-                c = sparing(&mut r, &s, c, &stretch.first);
+                let alone = (round % 4 == 0).then_some(target);
+                c = sparing(&mut r, &s, c, &stretch.first, alone);
             }
             if round % 4 == 0 {
                 c = late(&s, c, target);
@@ -436,15 +551,21 @@ fn share_guarantee() {
                     let over = used as i128 - slice(&before, named as usize);
                     stretch.report(named as usize, reason, used, over.max(0));
                 }
+                Call::Change {
+                    number,
+                    reservation,
+                } => stretch.change(number, reservation),
                 _ => {}
             }
         }
-        checks[0] += stretch.checks[0];
-        checks[1] += stretch.checks[1];
+        for k in 0..2 {
+            checks[k] += stretch.checks[k];
+            checks[k + 2] += stretch.checks_changed[k];
+        }
         nearest = nearest.min(stretch.nearest);
     }
-    assert!(checks.iter().all(|&n| n > 100_000));
-    println!("{checks:?} checks, least slack {nearest}");
+    assert!(checks.iter().all(|&n| n > 100_000), "{checks:?}");
+    println!("{checks:?} checks, in all and after a change; least slack {nearest}");
 }
 
 /// Gives a few bytes at a time.

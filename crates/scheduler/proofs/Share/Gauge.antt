@@ -50,6 +50,15 @@ module _ (sel : ℕ → Bool) (x : ℕ) (off : sel x ≡ false) (v : ℕ) (l : L
       rw (before-snoc r x l (n ∷ []) in-list)
       (omega arith)
 
+  -- a thread's allotment is cut
+  pub gauge-cut : (al al′ : ℕ → ℕ) (r n : ℕ) → ((k : ℕ) → (k ≡ n → ⊥) → al′ k ≡ al k) → al′ n ≤ al n
+      → gauge sel x al′ l r v ≤ gauge sel x al l r v
+  unfolding gauge
+  gauge-cut al al′ r n same less =
+      let z : mask sel al′ n + 0 ≤ mask sel al n = omega (arith, cond-le (sel n) (al′ n) (al n) less) in
+      let c = ahead-stay x n 0 (mask sel al) (mask sel al′) (masked al al′ n same) z l in
+      omega arith
+
   -- a thread that doesn't run leaves the list
   pub gauge-leave : (al al′ : ℕ → ℕ) (r n : ℕ) → ((k : ℕ) → (k ≡ n → ⊥) → al′ k ≡ al k) → (n ≡ r → ⊥) → (n ≡ x → ⊥)
       → gauge sel x al′ (without n l) r v ≤ gauge sel x al l r v

@@ -12,11 +12,11 @@ use Rattle.scheduler.specs.declared.Thread.{Thread}
 use Rattle.scheduler.specs.declared.Scheduler.{Scheduler}
 use Rattle.scheduler.specs.State.{noThread, threadAt, admittedAt, runnableAt, reservedAt, reservationAt, withThread, withGroup}
 use Rattle.scheduler.specs.State.{withList, withRun, isAdmitted, isReserved, isRunnable}
-use Rattle.scheduler.specs.Refusals.{Call, openGroup, closeGroup, admit, remove, wake, dispatch, report, refusal}
+use Rattle.scheduler.specs.Refusals.{Call, openGroup, closeGroup, admit, remove, wake, dispatch, report, change, refusal}
 use Rattle.scheduler.specs.Effects.{toRear, offList, join, newThread, wokenThread, chargedThread, charged, exited, reported, chosen}
-use Rattle.scheduler.specs.Effects.{effect}
+use Rattle.scheduler.specs.Effects.{changedThread, effect}
 use Rattle.scheduler.specs.Rule.{isDispatch}
-use Rattle.scheduler.specs.Stretch.{keeps, ticksOf, keepsRunnable, keepsAdmitted}
+use Rattle.scheduler.specs.Stretch.{keeps, retains, ticksOf, keepsRunnable, keepsAdmitted}
 use Rattle.scheduler.proofs.Facts.{facts, in-threads, thread-other, thread-same}
 use Rattle.scheduler.proofs.Share.Gauge.{cond-zero}
 use Rattle.scheduler.proofs.Passed.{passes, admit-passed, report-passed, reported-cases}
@@ -31,6 +31,7 @@ settings-kept (wake n) s = refl
 settings-kept dispatch s = refl
 settings-kept (report reason used) s =
     reported-cases (λ s′. s′ .settings ≡ s .settings) (s .running) reason used s (λ _. refl) (λ _ _. refl) (λ _ _. refl)
+settings-kept (change n f) s = refl
 
 -- the thread that runs is the one last named
 pub running-named : (c : Call) (s : Scheduler) (last : ℕ) → ((s .running ≡ 64 → ⊥) → s .running ≡ last)
@@ -45,12 +46,13 @@ running-named dispatch s last h = λ _. refl
 running-named (report reason used) s last h =
     reported-cases (λ s′. (s′ .running ≡ 64 → ⊥) → s′ .running ≡ last) (s .running) reason used s
     (λ _ u. absurd (u refl)) (λ _ _ u. absurd (u refl)) (λ _ _ u. absurd (u refl))
+running-named (change n f) s last h = h
 
 -- an admitted thread y
 pub record Held (y last : ℕ) (c : Call) (s s′ : Scheduler) : Type 0 where
   pub admitted : T (admittedAt s y) → T (admittedAt s′ y)
   pub reserved : T (reservedAt s y) → T (reservedAt s′ y)
-  pub amount : reservationAt s′ y ≡ reservationAt s y
+  pub amount : T (retains (reservationAt s y) y last c) → reservationAt s′ y ≡ reservationAt s y
   pub runnable : T (keepsRunnable y last c) → T (runnableAt s y) → T (runnableAt s′ y)
   pub counted : (threadAt s′ y) .ticks ≡ (threadAt s y) .ticks + cond (eqb last y) (ticksOf c) 0
 
@@ -61,7 +63,7 @@ unfolding admittedAt reservedAt reservationAt runnableAt
 untouched y last c s s′ e none = record {
   admitted = λ a. subst (λ (t : Thread). T (isAdmitted t)) (sym e) a;
   reserved = λ a. subst (λ (t : Thread). T (isReserved t)) (sym e) a;
-  amount = ap (λ (t : Thread). t .reservation) e;
+  amount = λ _. ap (λ (t : Thread). t .reservation) e;
   runnable = λ _ a. subst (λ (t : Thread). T (isRunnable t)) (sym e) a;
   counted = omega (arith, ap (λ (t : Thread). t .ticks) e, none);
 }
@@ -73,8 +75,23 @@ held-woken y last s h =
     record {
       admitted = λ _. subst (λ (t : Thread). T (isAdmitted t)) (sym e) tt;
       reserved = λ _. subst (λ (t : Thread). T (isReserved t)) (sym e) tt;
-      amount = ap (λ (t : Thread). t .reservation) e;
+      amount = λ _. ap (λ (t : Thread). t .reservation) e;
       runnable = λ _ _. subst (λ (t : Thread). T (isRunnable t)) (sym e) tt;
+      counted = omega (arith, ap (λ (t : Thread). t .ticks) e, cond-zero (eqb last y));
+    }
+
+-- y's reservation was changed, or set to the same amount
+held-changed : (y last d : ℕ) (s : Scheduler) → y < length (s .threads)
+    → Held y last (change y d) s (withThread s y (changedThread s d (threadAt s y)))
+unfolding admittedAt reservedAt reservationAt runnableAt changedThread ticksOf retains
+held-changed y last d s h =
+    let e = thread-same s y (changedThread s d (threadAt s y)) h in
+    let f = (threadAt s y) .reservation in
+    record {
+      admitted = λ a. subst (λ (t : Thread). T (isAdmitted t)) (sym e) a;
+      reserved = λ a. subst (λ (t : Thread). T (isReserved t)) (sym e) a;
+      amount = λ q. ap (λ (t : Thread). t .reservation) e ∙ eqb-true d f (is (eqb d f) (rw (eq-eqb y y refl) at q));
+      runnable = λ _ a. subst (λ (t : Thread). T (isRunnable t)) (sym e) a;
       counted = omega (arith, ap (λ (t : Thread). t .ticks) e, cond-zero (eqb last y));
     }
 
@@ -85,7 +102,7 @@ unfolding admittedAt reservedAt reservationAt runnableAt chargedThread keeps tic
 held-charged y last reason used s s′ z e = record {
   admitted = λ _. subst (λ (t : Thread). T (isAdmitted t)) (sym e) some;
   reserved = λ _. subst (λ (t : Thread). T (isReserved t)) (sym e) some;
-  amount = ap (λ (t : Thread). t .reservation) e;
+  amount = λ _. ap (λ (t : Thread). t .reservation) e;
   runnable = λ q a. subst (λ (t : Thread). T (isRunnable t)) (sym e) (tick (rw (eq-eqb last y z) at q));
   counted = rw (eq-eqb last y z) (ap (λ (t : Thread). t .ticks) e);
 }
@@ -153,6 +170,14 @@ held y last (report reason used) s e at a k =
     (held-own y last reason used s (in-threads s (facts s (ok .0)) y a) w (rw (eq-eqb last y w) at k)))
     (λ q _. held-other y last (s .running) reason used s (eqb-false y (s .running) q) is-last)
     refl
+held y last (change n d) s e at a k =
+    by (λ b. eqb y n ≡ b → Held y last (change n d) s (withThread s n (changedThread s d (threadAt s n)))) (eqb y n)
+    (λ q _.
+    subst (λ (j : ℕ). Held y last (change j d) s (withThread s j (changedThread s d (threadAt s j)))) (eqb-true y n q)
+    (held-changed y last d s (in-threads s (facts s ((passes (change n d) s e) .0)) y a)))
+    (λ q _. untouched y last (change n d) s (effect (change n d) s) (thread-other s n (changedThread s d (threadAt s n)) y (eqb-false y n q))
+    (cond-zero (eqb last y)))
+    refl
 
 -- a thread that stays runnable stays admitted
 pub runnable-admitted : (x last : ℕ) (c : Call) → T (keepsRunnable x last c) → T (keepsAdmitted x last c)
@@ -167,3 +192,4 @@ runnable-admitted x last (report reason used) t =
     (elim (eqb last x) as (λ b. T (not b || eqb reason 0) → T (not b || not (eqb reason 3)))
     [ true ↦ λ u. rw (eqb-true reason 0 (is (eqb reason 0) u)) tt | false ↦ λ u. tt ])
     t
+runnable-admitted x last (change n d) t = tt

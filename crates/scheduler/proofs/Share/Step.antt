@@ -1,13 +1,13 @@
 -- One accepted call. The potential of x is f × (what may still run before x) + h × (what x used of its quantum); each accepted call
 -- charges those that count at most what the potential falls and what they overran, and x's own ticks pay at the rate h.
-use Prim.Native.Nat.{ℕ, _+_, _-_, _*_, _≤_, _<_}
+use Prim.Native.Nat.{ℕ, _+_, _-_, _*_, min, _≤_, _<_}
 use mathlib.Core.Path.{_≡_, refl, sym, ap, subst, _∙_, fun-ext}
 use mathlib.Core.List.{List, [], _∷_, _++_}
 use mathlib.Core.Bool.{Bool, true, false, not, cond, _||_, false≢true}
 use native.Mathlib.Omega.{arith}
-use native.Mathlib.Nat.{mul-le-mul-left, min-le-left}
+use native.Mathlib.Nat.{mul-le-mul-left, min-eq-left, min-le-left}
 use lib.Dec.{T, eqb}
-use borrow.Author.Tests.{eqb-true, eqb-false}
+use borrow.Author.Tests.{eqb-true, eqb-false, eq-eqb}
 use Rattle.base.specs.Checks.{firstOf}
 use Rattle.base.specs.Lists.{member, without}
 use Rattle.base.proofs.Bools.{by, is, isn't, clash}
@@ -16,18 +16,19 @@ use Rattle.scheduler.specs.declared.Settings.{Settings}
 use Rattle.scheduler.specs.declared.Group.{Group}
 use Rattle.scheduler.specs.declared.Scheduler.{Scheduler}
 use Rattle.scheduler.specs.State.{noThread, noGroup, threadAt, admittedAt, blockedAt, runnableAt, reservedAt, reservationAt}
-use Rattle.scheduler.specs.State.{allotmentAt, listed, sliceAt, withThread, withGroup, withList, withRun}
-use Rattle.scheduler.specs.Refusals.{Call, openGroup, closeGroup, admit, remove, wake, dispatch, report, checks, refusal}
+use Rattle.scheduler.specs.State.{allotmentAt, quantum, listed, sliceAt, withThread, withGroup, withList, withRun}
+use Rattle.scheduler.specs.Refusals.{Call, openGroup, closeGroup, admit, remove, wake, dispatch, report, change, checks, refusal}
 use Rattle.scheduler.specs.Effects.{rear, toRear, offList, join, newThread, usedUp, renewed, chargedThread, charged, exited}
-use Rattle.scheduler.specs.Effects.{reported, chosen, effect}
-use Rattle.scheduler.specs.Stretch.{keeps, ticksOf, keepsRunnable}
+use Rattle.scheduler.specs.Effects.{changedThread, reported, chosen, effect}
+use Rattle.scheduler.specs.Stretch.{keeps, retains, ticksOf, keepsRunnable}
 use Rattle.scheduler.proofs.Debt.{used-most}
 use Rattle.scheduler.proofs.Facts.{Facts, facts, reserved-admitted, admitted-reserved, in-threads, member-reserved, below-quantum}
 use Rattle.scheduler.proofs.Facts.{fits, take-rear, take-off, room, listed-join, unlisted}
 use Rattle.scheduler.proofs.Share.Gauge.{gauge, gauge-join, gauge-leave, gauge-run, gauge-stay, gauge-off, gauge-rear, gauge-self}
-use Rattle.scheduler.proofs.Share.Gauge.{gauge-turn, quiet-step, run-step, turn-step}
-use Rattle.scheduler.proofs.Steps.{allotment-other, slice-other, charged-left, charged-debt, woken-allotment}
-use Rattle.scheduler.proofs.Passed.{passes, admit-passed, remove-passed, wake-passed, dispatch-passed, report-passed, reported-cases}
+use Rattle.scheduler.proofs.Share.Gauge.{gauge-turn, gauge-cut, quiet-step, run-step, turn-step}
+use Rattle.scheduler.proofs.Steps.{allotment-other, slice-other, charged-left, charged-debt, woken-allotment, changed-allotment}
+use Rattle.scheduler.proofs.Passed.{passes, admit-passed, remove-passed, wake-passed, dispatch-passed, report-passed, ChangeOk}
+use Rattle.scheduler.proofs.Passed.{change-ok, reported-cases}
 
 -- the potential of x, with the threads that sel picks
 unfoldable pub weight : (ℕ → Bool) → ℕ → Scheduler → ℕ
@@ -135,6 +136,37 @@ module _ (sel : ℕ → Bool) (x : ℕ) (off : sel x ≡ false) (s : Scheduler) 
               (first-before x (runnableAt s) (listed s) x-in run),
         ));
   }
+
+  -- a change of another's reservation, or of x's to the same one
+  change-quiet : (n d : ℕ) → ChangeOk s n d → (n ≡ x → d ≡ reservationAt s x) → Quiet sel x s (effect (change n d) s) 0
+  unfolding effect weight withThread listed allotmentAt sliceAt
+  change-quiet n d ok same-amount =
+      let t = changedThread s d (threadAt s n) in
+      let at = withThread s n t in
+      let same : (j : ℕ) → (j ≡ n → ⊥) → allotmentAt at j ≡ allotmentAt s j = allotment-other s n t in
+      let cut : allotmentAt at n ≡ min (allotmentAt s n) (quantum s d) =
+      changed-allotment s n d (in-threads s k n (reserved-admitted s n (ok .reserved))) in
+      record {
+        same-settings = refl;
+        same-allotment =
+            by (λ b. eqb x n ≡ b → allotmentAt at x ≡ allotmentAt s x) (eqb x n)
+            (λ e _.
+            let z = eqb-true x n e in
+            let amount : reservationAt s n ≡ d = ap (reservationAt s) (sym z) ∙ sym (same-amount (sym z)) in
+            let whole = subst (λ (j : ℕ). allotmentAt s n ≤ j * s .settings .thousandth) amount (below-quantum s k n (ok .reserved)) in
+            subst (λ (j : ℕ). allotmentAt at j ≡ allotmentAt s j) (sym z)
+            (cut ∙ min-eq-left {n = allotmentAt s n} {m = quantum s d} whole))
+            (λ e _. same x (eqb-false x n e))
+            refl;
+        lighter =
+            subst (λ (v : ℕ). gauge sel x (allotmentAt at) (listed s) (s .running) v + 0 ≤ weight sel x s)
+            (sym (slice-other s n t (s .running) (λ z. ok .waits (sym z))))
+            (omega (
+              arith,
+              gauge-cut sel x off (sliceAt s (s .running)) (listed s) x-in (allotmentAt s) (allotmentAt at) (s .running) n same
+                  (omega (arith, cut, min-le-left (allotmentAt s n) (quantum s d))),
+            ));
+      }
 
   -- a report by another thread: it pays what is within its slice
   module _ (r : ℕ) (is-r : s .running ≡ r) (runs : r ≡ 64 → ⊥) (other : r ≡ x → ⊥) (reason used paid : ℕ) (fit : paid ≤ sliceAt s r)
@@ -322,28 +354,34 @@ module _ (f h : ℕ) (sel : ℕ → Bool) (x : ℕ) (off : sel x ≡ false) (s :
       keep
       refl
 
-  pub step-bound : (c : Call) → refusal c s ≡ 0 → T (keepsRunnable x last c)
+  pub step-bound : (c : Call) → refusal c s ≡ 0 → T (keepsRunnable x last c) → T (retains f x last c)
       → StepBound f h sel x s (effect c s) last (ticksOf c) (ticksOf c - sliceAt s (s .running))
-  unfolding effect checks keeps ticksOf
-  step-bound (openGroup n p c) e keep =
+  unfolding effect checks keeps retains ticksOf
+  step-bound (openGroup n p c) e keep same =
       quiet-bound f h sel x s (effect (openGroup n p c) s) last (group-quiet sel x s n (record { ceiling = c; parent = p; opened = 1 }))
-  step-bound (closeGroup n) e keep = quiet-bound f h sel x s (effect (closeGroup n) s) last (group-quiet sel x s n noGroup)
-  step-bound (admit n g d) e keep =
+  step-bound (closeGroup n) e keep same = quiet-bound f h sel x s (effect (closeGroup n) s) last (group-quiet sel x s n noGroup)
+  step-bound (admit n g d) e keep same =
       let ok = passes (admit n g d) s e in
       let c = admit-passed s n g d (ok .1) in
       quiet-bound f h sel x s (effect (admit n g d) s) last (admit-quiet sel x off s (facts s (ok .0)) (guard .reserved) n g d (c .0)
       (c .1))
-  step-bound (remove n) e keep =
+  step-bound (remove n) e keep same =
       let ok = passes (remove n) s e in
       let c = remove-passed s n (ok .1) in
       quiet-bound f h sel x s (effect (remove n) s) last
       (remove-quiet sel x off s (facts s (ok .0)) (guard .reserved) n (c .0) (c .1) (eqb-false n x (isn't (eqb n x) keep)))
-  step-bound (wake n) e keep =
+  step-bound (wake n) e keep same =
       let ok = passes (wake n) s e in
       quiet-bound f h sel x s (effect (wake n) s) last (wake-quiet sel x s (facts s (ok .0)) n (wake-passed s n (ok .1)))
-  step-bound dispatch e keep =
+  step-bound dispatch e keep same =
       let ok = passes dispatch s e in
       quiet-bound f h sel x s (effect dispatch s) last
       (dispatch-quiet sel x off s (facts s (ok .0)) (guard .reserved) (guard .runnable) (dispatch-passed s (ok .1)))
-  step-bound (report reason used) e keep =
+  step-bound (report reason used) e keep same =
       report-bound reason used (facts s ((passes (report reason used) s e) .0)) ((passes (report reason used) s e) .1) keep
+  step-bound (change n d) e keep same =
+      let ok = passes (change n d) s e in
+      let own : n ≡ x → d ≡ reservationAt s x =
+      λ z. eqb-true d f (is (eqb d f) (rw (eq-eqb n x z) at same)) ∙ sym (guard .amount) in
+      quiet-bound f h sel x s (effect (change n d) s) last
+      (change-quiet sel x off s (facts s (ok .0)) (guard .reserved) n d (change-ok s n d (ok .1)) own)

@@ -56,12 +56,12 @@ kept p s n t l a j b =
     (λ e _. subst (λ (u : Thread). T (p u)) (sym (thread-other s n t j (eqb-false j n e))) b)
     refl
 
-admitted-kept : (s : Scheduler) (n : ℕ) (t : Thread) → n < length (s .threads) → T (isAdmitted t) → (j : ℕ) → T (admittedAt s j)
+pub admitted-kept : (s : Scheduler) (n : ℕ) (t : Thread) → n < length (s .threads) → T (isAdmitted t) → (j : ℕ) → T (admittedAt s j)
     → T (admittedAt (withThread s n t) j)
 unfolding admittedAt
 admitted-kept = kept (λ t. isAdmitted t)
 
-reserved-kept : (s : Scheduler) (n : ℕ) (t : Thread) → n < length (s .threads) → T (isReserved t) → (j : ℕ) → T (reservedAt s j)
+pub reserved-kept : (s : Scheduler) (n : ℕ) (t : Thread) → n < length (s .threads) → T (isReserved t) → (j : ℕ) → T (reservedAt s j)
     → T (reservedAt (withThread s n t) j)
 unfolding reservedAt
 reserved-kept = kept (λ t. isReserved t)
@@ -71,7 +71,7 @@ runnable-kept : (s : Scheduler) (n : ℕ) (t : Thread) → n < length (s .thread
 unfolding runnableAt
 runnable-kept = kept (λ t. isRunnable t)
 
-listed-kept : (p q : ℕ → Bool) (l : List ℕ) → ((j : ℕ) → T (p j) → T (q j)) → T (everyOf (λ n. ltb n 64 && p n) l)
+pub listed-kept : (p q : ℕ → Bool) (l : List ℕ) → ((j : ℕ) → T (p j) → T (q j)) → T (everyOf (λ n. ltb n 64 && p n) l)
     → T (everyOf (λ n. ltb n 64 && q n) l)
 listed-kept p q l f t =
     everyOf-map (λ n. ltb n 64 && p n) (λ n. ltb n 64 && q n) l

@@ -199,17 +199,25 @@ module _ (s : Scheduler) (n : ℕ) where
       ∙ ap (λ (o : List ℕ). changed n noThread o (s .count - 1)) (w .moved))
       (λ z. is ∙ ap removal z ∙ same)
 
-  pub wake-done : (k : ℕ) → k ≡ refusal (wake n) s → (a : Answer) → a ≡ cond (eqb k 0) Accepted (Refused k)
-      → (t : Thread) → t ≡ cond (eqb k 0) (wokenThread s entry) entry
-      → answered a (withThread s (n % 64) t) ≡ answeredTo (wake n) s
-  unfolding effect isDispatch withThread
-  wake-done k e a q t qt =
-      settled (wake n) s (withThread s (n % 64) t) refl k e a q
+  -- a call that stores one entry, made of the one that is there
+  pub stored : (c : Call) (new : Thread → Thread) → isDispatch c ≡ false → effect c s ≡ withThread s n (new (threadAt s n))
+      → (refusal c s ≡ 0 → n < 64) → (k : ℕ) → k ≡ refusal c s → (a : Answer) → a ≡ cond (eqb k 0) Accepted (Refused k)
+      → (t : Thread) → t ≡ cond (eqb k 0) (new entry) entry → answered a (withThread s (n % 64) t) ≡ answeredTo c s
+  unfolding withThread
+  stored c new d f small k e a q t qt =
+      settled c s (withThread s (n % 64) t) d k e a q
       (λ z r.
-      let ok = passes (wake n) s r in
-      let low = (facts s (ok .0)) .small n (wake-passed s n (ok .1)) in
-      let w : t ≡ wokenThread s entry = qt ∙ rw z in
-      ap (withThread s (n % 64)) w ∙ ap (λ (j : ℕ). withThread s j (wokenThread s (threadAt s j))) (rest n low))
+      let w : t ≡ new entry = qt ∙ rw z in
+      ap (withThread s (n % 64)) w ∙ ap (λ (j : ℕ). withThread s j (new (threadAt s j))) (rest n (small r)) ∙ sym f)
       (λ z.
       let w : t ≡ entry = qt ∙ rw z in
       ap (withThread s (n % 64)) w ∙ same)
+
+  pub wake-done : (k : ℕ) → k ≡ refusal (wake n) s → (a : Answer) → a ≡ cond (eqb k 0) Accepted (Refused k)
+      → (t : Thread) → t ≡ cond (eqb k 0) (wokenThread s entry) entry
+      → answered a (withThread s (n % 64) t) ≡ answeredTo (wake n) s
+  unfolding effect isDispatch
+  wake-done k e a q t qt =
+      stored (wake n) (wokenThread s) refl refl
+      (λ r. let ok = passes (wake n) s r in (facts s (ok .0)) .small n (wake-passed s n (ok .1)))
+      k e a q t qt

@@ -35,11 +35,56 @@ fn amount(r: &mut Rng, s: &Scheduler, group: u64) -> u64 {
     }
 }
 
+/// A new reservation for a thread: all that its group has free, the old one
+/// counted or not, or one more; the old one or about it; about what the allotment
+/// fills; in range or any value.
+fn new_amount(r: &mut Rng, s: &Scheduler, number: u64) -> u64 {
+    let Some(t) = s.threads.get(number as usize) else {
+        return r.edgy(0, 1001);
+    };
+    let old = t.reservation as u64;
+    let free = match t.group {
+        g if (g as usize) < GROUPS => free_in(s, g as usize),
+        _ => 0,
+    };
+    // The least reservation whose quantum the allotment fits.
+    let held = t.allotment.max(1) as u64;
+    let fitting = held.div_ceil(s.settings.thousandth.max(1) as u64);
+    match r.below(20) {
+        0 => edge_value(r),
+        1 => r.pick(&[0, 1, 1000, 1001]),
+        2 | 3 => free + old,
+        4 | 5 => free + old + 1,
+        6 => free + r.below(2),
+        7 | 8 => old,
+        9 => old + r.below(3) - (old > 0) as u64,
+        10 => 1,
+        11 | 12 => fitting,
+        13 => (fitting + r.below(3)).saturating_sub(1),
+        14 => r.edgy(0, 1001),
+        15 | 16 => r.range(1, old),
+        _ => r.range(1, free + old),
+    }
+}
+
+/// A change of an admitted thread mostly, now and then of the running one.
+pub(super) fn change_call(r: &mut Rng, s: &Scheduler) -> Call {
+    let number = if s.running < NONE && r.chance(1, 8) {
+        s.running as u64
+    } else {
+        mostly(r, &admitted(s), 66)
+    };
+    Call::Change {
+        number,
+        reservation: new_amount(r, s, number),
+    }
+}
+
 /// A random call with plausible and bad arguments, steered by the state (of
 /// any bits) so that every answer occurs.
 pub fn call(r: &mut Rng, s: &Scheduler) -> Call {
     let runs = s.running < NONE;
-    match r.below(20) {
+    match r.below(22) {
         0 | 1 => {
             let parent = mostly(r, &open_groups(s), 16);
             let shut: Vec<usize> = (0..GROUPS)
@@ -76,6 +121,7 @@ pub fn call(r: &mut Rng, s: &Scheduler) -> Call {
                 mostly(r, &with_status(s, BLOCKED), 66)
             },
         },
+        10 | 11 => change_call(r, s),
         _ if runs == r.chance(1, 12) => Call::Dispatch,
         _ => report_call(r, s),
     }

@@ -1,5 +1,6 @@
 //! Records and journals, whole or damaged.
 
+use super::calls::change_call;
 use super::states::with_status;
 use super::{call, edge_value, Rng};
 use crate::blocks::{fields, kind, seal, write_block, Record, BLOCK, RECORD, RECORDS};
@@ -8,7 +9,7 @@ use crate::rule::{Scheduler, BLOCKED, FREE, NONE};
 
 /// A well-formed record of any kind with any values in the used fields.
 pub fn any_record(r: &mut Rng) -> Record {
-    let kind = r.range(1, 8) as u8;
+    let kind = r.range(kind::OPEN as u64, kind::CHANGE as u64) as u8;
     let (subject, group) = (edge_value(r) as u8, edge_value(r) as u8);
     let (amount, ticks) = (edge_value(r) as u16, edge_value(r) as u32);
     let overrun = edge_value(r) as u16;
@@ -72,8 +73,11 @@ fn valid_call(r: &mut Rng, s: &Scheduler) -> Call {
     }
 }
 
-/// Mostly dispatch, report with block, and bursts of wakes.
+/// Mostly dispatch, report with block, and bursts of wakes; at times a change.
 fn storm_call(r: &mut Rng, s: &Scheduler) -> Call {
+    if s.count > 0 && r.chance(1, 16) {
+        return change_call(r, s);
+    }
     let blocked = with_status(s, BLOCKED);
     if s.count < 40 && r.chance(1, 3) {
         let free = with_status(s, FREE);
@@ -162,7 +166,7 @@ fn damage(r: &mut Rng, blocks: &mut Vec<[u8; BLOCK]>, tail: &mut Vec<u8>) {
     let i = r.below(blocks.len() as u64) as usize;
     let j = r.below(blocks.len() as u64) as usize;
     let place = r.below(512) as usize;
-    match r.below(17) {
+    match r.below(18) {
         // Doubled, missing, exchanged.
         3 => {
             let copy = blocks[i];
@@ -242,6 +246,11 @@ fn damage_block(r: &mut Rng, block: &mut [u8; BLOCK], way: u64, place: usize) {
             block[at + r.range(10, 11) as usize] = r.edgy(1, 255) as u8;
             seal(block);
         }
+        // A record, of a change if there is one, without a form under a right check.
+        16 if used > 0 => {
+            misform(r, &mut block[14..14 + RECORD * used]);
+            seal(block);
+        }
         _ => {
             for byte in block.iter_mut() {
                 *byte = r.bits() as u8;
@@ -250,5 +259,22 @@ fn damage_block(r: &mut Rng, block: &mut [u8; BLOCK], way: u64, place: usize) {
                 seal(block);
             }
         }
+    }
+}
+
+/// Gives one record, a change if there is one, a byte other than 0 that a change
+/// leaves 0, or another kind.
+fn misform(r: &mut Rng, records: &mut [u8]) {
+    let mut parts: Vec<&mut [u8]> = records.chunks_exact_mut(RECORD).collect();
+    if parts.iter().any(|part| part[0] == kind::CHANGE) {
+        parts.retain(|part| part[0] == kind::CHANGE);
+    }
+    let i = r.below(parts.len() as u64) as usize;
+    let part = &mut parts[i];
+    if r.chance(1, 4) {
+        part[0] = r.pick(&[0, kind::ADMIT, kind::START, kind::CHANGE, kind::CHANGE + 1]);
+    } else {
+        let unused = [2, 3, 6, 7, 8, 9, 10, 11, 12, 13, 14, 15];
+        part[r.pick(&unused)] = r.edgy(1, 255) as u8;
     }
 }

@@ -197,7 +197,13 @@ fn admit_some(r: &mut Rng, s: &mut Scheduler) {
 
 /// An admitted thread of a sound state.
 fn some_thread(r: &mut Rng, s: &Scheduler, group: usize, reservation: u64, mood: u64) -> Thread {
-    let quantum = reservation * s.settings.thousandth as u64;
+    let m = s.settings.thousandth as u64;
+    // At times the quantum of a smaller reservation.
+    let allotment = if r.chance(1, 6) {
+        r.range(1, reservation) * m
+    } else {
+        r.edgy(1, reservation * m)
+    };
     let admission = r.edgy(0, s.meter);
     let anchor = r.edgy(admission, s.meter);
     let runnable = match mood {
@@ -212,7 +218,7 @@ fn some_thread(r: &mut Rng, s: &Scheduler, group: usize, reservation: u64, mood:
         anchor,
         ticks: r.edgy(0, s.meter - admission),
         since: r.edgy(0, s.meter - anchor),
-        allotment: r.edgy(1, quantum) as i32,
+        allotment: allotment as i32,
         reservation: reservation as u16,
         group: group as u8,
         status: if runnable { RUNNABLE } else { BLOCKED },

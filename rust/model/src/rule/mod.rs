@@ -93,6 +93,14 @@ impl Scheduler {
         self.wake_sound(number)
     }
 
+    /// Gives a thread another reservation; its place stays.
+    pub fn change(&mut self, number: u64, reservation: u64) -> u32 {
+        if !self.sound() {
+            return answer::UNSOUND;
+        }
+        self.change_sound(number, reservation)
+    }
+
     pub fn dispatch(&mut self) -> Reply {
         if !self.sound() {
             return Reply::plain(answer::UNSOUND);
@@ -144,10 +152,11 @@ impl Scheduler {
 
 /// The calls on a state known to be sound.
 impl Scheduler {
-    /// Whether an amount in range fits what the group has free.
+    /// Whether an amount in range fits what the group has free with `given` of
+    /// what is taken counted free. The groups above it are not looked at.
     #[inline]
-    fn fits(&self, group: usize, amount: u64) -> bool {
-        self.taken(group) as u64 + amount <= self.groups[group].ceiling as u64
+    fn fits(&self, group: usize, given: u64, amount: u64) -> bool {
+        self.taken(group) as u64 + amount <= self.groups[group].ceiling as u64 + given
     }
 
     #[inline]
@@ -161,7 +170,7 @@ impl Scheduler {
         if ceiling == 0 || ceiling > WHOLE as u64 {
             return answer::AMOUNT;
         }
-        if !self.fits(parent as usize, ceiling) {
+        if !self.fits(parent as usize, 0, ceiling) {
             return answer::ROOM;
         }
         self.groups[number as usize] = Group {
@@ -200,7 +209,7 @@ impl Scheduler {
         if reservation == 0 || reservation > WHOLE as u64 {
             return answer::AMOUNT;
         }
-        if !self.fits(group as usize, reservation) {
+        if !self.fits(group as usize, 0, reservation) {
             return answer::ROOM;
         }
         self.threads[number as usize] = Thread {
@@ -243,6 +252,32 @@ impl Scheduler {
         }
         t.status = RUNNABLE;
         t.anchor = meter;
+        t.since = 0;
+        answer::ACCEPTED
+    }
+
+    #[inline]
+    pub(crate) fn change_sound(&mut self, number: u64, reservation: u64) -> u32 {
+        if !self.admitted(number) {
+            return answer::THREAD;
+        }
+        if self.running as u64 == number {
+            return answer::RUNS;
+        }
+        if reservation == 0 || reservation > WHOLE as u64 {
+            return answer::AMOUNT;
+        }
+        // The old reservation counts as free.
+        let n = number as usize;
+        let (group, old) = (self.threads[n].group as usize, self.threads[n].reservation);
+        if !self.fits(group, old as u64, reservation) {
+            return answer::ROOM;
+        }
+        let quantum = reservation as i32 * self.settings.thousandth as i32;
+        let t = &mut self.threads[n];
+        t.reservation = reservation as u16;
+        t.allotment = t.allotment.min(quantum);
+        t.anchor = self.meter;
         t.since = 0;
         answer::ACCEPTED
     }

@@ -22,6 +22,10 @@ pub fn plainly(before: &Scheduler, call: Call) -> (Reply, Scheduler) {
         Call::Wake { number } => plain.wake(number),
         Call::Dispatch => return plain.dispatch(),
         Call::Report { reason, used } => plain.report(reason, used),
+        Call::Change {
+            number,
+            reservation,
+        } => plain.change(number, reservation),
     };
     match made {
         Ok(after) => (Reply::default(), after),
@@ -165,6 +169,35 @@ impl Plain<'_> {
         t.status = 1;
         t.anchor = self.s.meter;
         t.since = 0;
+        Ok(self.s)
+    }
+
+    fn change(mut self, number: u64, reservation: u64) -> Result<Scheduler, u32> {
+        if !self.admitted(number) {
+            return Err(7);
+        }
+        if self.s.running as u64 == number {
+            return Err(9);
+        }
+        if !(1..=1000).contains(&reservation) {
+            return Err(4);
+        }
+        let old = self.before.threads[number as usize];
+        if reservation > self.free(old.group as u64) + old.reservation as u64 {
+            return Err(5);
+        }
+        let quantum = reservation * self.s.settings.thousandth as u64;
+        self.s.threads[number as usize] = Thread {
+            anchor: self.s.meter,
+            since: 0,
+            allotment: if old.allotment as u64 > quantum {
+                quantum as i32
+            } else {
+                old.allotment
+            },
+            reservation: reservation as u16,
+            ..old
+        };
         Ok(self.s)
     }
 

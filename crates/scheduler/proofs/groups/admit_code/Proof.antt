@@ -70,7 +70,7 @@ returns-5 c = λ s w g l q.
     let a = start e in
     c .amount-code .ensures
     ∙ ap (λ (n : ℕ). amountChecks n (a .args .reservation))
-    (c .before .free-in .ensures s g (l (not-false (a .args .ok) (e .before .before .if1 .left))))
+    (c .before .free-in .ensures .1 s g (l (not-false (a .args .ok) (e .before .before .if1 .left))))
     ∙ admit-amount s (a .args .number) (a .args .group) (a .args .reservation) (ok (e .before .before) s w) (e .before .if2 .left)
     (fresh e s q)
     (sym (h .before .is-open .ensures s g) ∙ not-false (h .before .is-open .result) (h .if4 .left))

@@ -79,7 +79,7 @@ returns-6 c = λ s w g l.
     let a = start e in
     c .amount-code .ensures
     ∙ ap (λ (n : ℕ). amountChecks n (a .args .ceiling))
-    (c .before .free-in .ensures s g (l (not-false (a .args .ok) (e .before .before .if1 .left))))
+    (c .before .free-in .ensures .1 s g (l (not-false (a .args .ok) (e .before .before .if1 .left))))
     ∙ open-amount s (a .args .number) (a .args .parent) (a .args .ceiling) (ok (e .before .before) s w) (parent e s g)
     (h .before .before .before .if3 .left)
     (sym (h .before .before .is-open2 .ensures s g) ∙ h .before .if4 .left) (omega arith)

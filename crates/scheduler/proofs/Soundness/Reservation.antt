@@ -1,0 +1,98 @@
+-- A change of a reservation keeps a state sound: the list stays, the allotment is cut into the new quantum, and the load of the thread's
+-- group changes by the difference of the two reservations, which its room allows.
+use Prim.Native.Nat.{ℕ, _+_, _-_, min, _≤_, _<_}
+use mathlib.Core.Path.{_≡_, refl, sym, subst}
+use mathlib.Core.Bool.{cond, _&&_}
+use native.Mathlib.Omega.{arith}
+use native.Mathlib.Nat.{le-refl, mul-pos, min-le-right}
+use lib.ListN.{length}
+use lib.Dec.{T, eqb}
+use borrow.Author.Tests.{eqb-true}
+use Rattle.base.proofs.Bools.{by, is}
+use Rattle.quota.specs.Quota.{natOf}
+use Rattle.quota.proofs.Debt.{cut-nat}
+use Rattle.scheduler.specs.declared.Thread.{Thread}
+use Rattle.scheduler.specs.declared.Scheduler.{Scheduler}
+use Rattle.scheduler.specs.State.{threadAt, groupAt, admittedAt, reservedAt, runnableAt, reservationAt, quantum, openAt, listed}
+use Rattle.scheduler.specs.State.{withThread, isReserved, isRunnable}
+use Rattle.scheduler.specs.Sound.{load}
+use Rattle.scheduler.specs.Refusals.{change, free, roomFor}
+use Rattle.scheduler.specs.Effects.{changedThread, effect}
+use Rattle.scheduler.proofs.Facts.{Fit, Account, Facts, reserved-admitted, carries, settings-facts, thread-other}
+use Rattle.scheduler.proofs.Passed.{ChangeOk}
+use Rattle.scheduler.proofs.Soundness.Change.{changed-facts, shareOf}
+use Rattle.scheduler.proofs.Soundness.Calls.{admitted-kept, reserved-kept, listed-kept}
+
+least : (a b : ℕ) → 1 ≤ a → 1 ≤ b → 1 ≤ min a b
+least a b h l = omega arith
+
+fit-changed : (s : Scheduler) (d : ℕ) (t : Thread) → 1 ≤ d → d ≤ 1000 → 1 ≤ s .settings .thousandth → Fit t (s .settings .thousandth)
+    → Fit (changedThread s d t) (s .settings .thousandth)
+unfolding changedThread
+fit-changed s d t d1 d1000 m1 k =
+    let q = quantum s d in
+    let a = natOf (t .allotment) in
+    record {
+      positive = d1;
+      at-most = d1000;
+      some = rw (cut-nat q (t .allotment)) (least a q (k .some) (mul-pos d1 m1));
+      bounded = rw (cut-nat q (t .allotment)) (min-le-right a q);
+    }
+
+account-changed : (s : Scheduler) (d : ℕ) (t : Thread) → Account t (s .meter) → Account (changedThread s d t) (s .meter)
+unfolding changedThread
+account-changed s d t k = record {
+  anchored = omega (arith, k .anchored, k .past);
+  past = le-refl (s .meter);
+  charged = k .charged;
+  since = omega arith;
+}
+
+change-room : (s : Scheduler) → Facts s → (n d : ℕ) → ChangeOk s n d
+    → (j : ℕ) → T (openAt s j) → load s j + shareOf (changedThread s d (threadAt s n)) j ≤ (groupAt s j) .ceiling + shareOf (threadAt s n) j
+unfolding changedThread free roomFor reservedAt reservationAt
+change-room s k n d ok j o =
+    let t = threadAt s n in
+    let g = t .group in
+    rw (is (isReserved t) (ok .reserved))
+    (by (λ b. eqb g j ≡ b → load s j + cond b d 0 ≤ (groupAt s j) .ceiling + cond b (t .reservation) 0) (eqb g j)
+    (λ e _.
+    let fits = subst (λ (i : ℕ). d ≤ (groupAt s i) .ceiling - load s i + t .reservation) (eqb-true g j e) (ok .fits-in) in
+    omega (arith, fits, carries s k j o))
+    (λ e _. omega (arith, carries s k j o))
+    refl)
+
+pub change-facts : (s : Scheduler) → Facts s → (n d : ℕ) → ChangeOk s n d → Facts (effect (change n d) s)
+unfolding effect withThread listed changedThread admittedAt reservedAt runnableAt
+change-facts s k n d ok =
+    let t = changedThread s d (threadAt s n) in
+    let a = reserved-admitted s n (ok .reserved) in
+    let q = k .thread n (ok .reserved) in
+    let inside : n < length (s .threads) = omega (arith, q .small, k .threads64) in
+    changed-facts s k n (q .small) t (withThread s n t) (record {
+      threads = refl;
+      groups = refl;
+      settings = refl;
+      meter = le-refl (s .meter);
+      meter-most = k .meter;
+      order64 = k .order64;
+      count64 = k .count64;
+      members = listed-kept (reservedAt s) (reservedAt (withThread s n t)) (listed s) (reserved-kept s n t inside (ok .reserved)) (k .members);
+      once = k .once;
+      others = λ j ne m. m;
+      own-list = λ _. q .in-list;
+      own-group = λ _. q .in-group;
+      own-status = k .status n (q .small);
+      own-fit = λ _. fit-changed s d (threadAt s n) (ok .positive) (ok .at-most) ((settings-facts (s .settings) (k .settings)) .0) (q .fit);
+      own-account = λ _. account-changed s d (threadAt s n) (k .account n a);
+      room = change-room s k n d ok;
+      run = λ ne.
+          let r = k .run ne in
+          record {
+            small = r .small;
+            admitted = admitted-kept s n t inside a (s .running) (r .admitted);
+            runnable =
+                subst (λ (u : Thread). T (isRunnable u)) (sym (thread-other s n t (s .running) (λ z. ok .waits (sym z)))) (r .runnable);
+            early = r .early;
+          };
+    })

@@ -1,0 +1,110 @@
+// Change: another reservation for a thread that does not run. It keeps its place and its status; its allotment is cut to the new quantum and
+// never raised, and its anchor is set.
+ghost use mathlib.Core.Path.{_≡_};
+ghost use mathlib.Core.Bool.{true, not, cond, _||_};
+ghost use mathlib.Core.List.{[], _∷_};
+ghost use Prim.Native.Nat.{_≤_};
+ghost use lib.Dec.{ltb, eqb};
+ghost use Rattle.base.specs.Checks.{within, _⇒_, firstOf};
+ghost use Rattle.scheduler.specs.Refusals.{change};
+ghost use Rattle.scheduler.specs.Effects.{changedThread};
+ghost use Rattle.scheduler.specs.Answers.{answeredTo};
+use crate::Answered;
+use crate::Scheduler;
+use crate::Thread;
+use crate::groups;
+use crate::refusal;
+use crate::threads;
+
+// The number that a change of a thread of a status is refused with, or 0. `room` is what the thread's group has free, its old reservation
+// counted as free.
+fn change_code(
+    ok: bool,
+    number: u64,
+    status: u8,
+    running: u32,
+    reservation: u64,
+    room: u64,
+) -> u32
+    ensures { λ r. ⌜ r ≡ firstOf ((not ok ⇒ 16) ∷ (ltb 63 number || not (ltb 0 status) ⇒ 7) ∷ (eqb running number ⇒ 9)
+        ∷ (not (within 1 1000 reservation) ⇒ 4) ∷ (ltb room reservation ⇒ 5) ∷ []) ⌝ }
+{
+    let runs = running as u64 == number;
+    let outside = groups::outside(reservation);
+    if !ok {
+        return refusal::UNSOUND;
+    }
+    if Scheduler::THREADS as u64 <= number {
+        return refusal::NO_THREAD;
+    }
+    if status == 0 {
+        return refusal::NO_THREAD;
+    }
+    if runs {
+        return refusal::THREAD_RUNNING;
+    }
+    if outside {
+        return refusal::AMOUNT;
+    }
+    if room < reservation {
+        return refusal::NO_ROOM;
+    }
+    0
+}
+
+impl Thread {
+    // The thread after a call to change its reservation.
+    fn changed_if(mut self, accepted: bool, meter: u64, thousandth: u16, reservation: u64) -> Self
+        requires { ⌜ (accepted ≡ true → reservation ≤ 1000) ⌝ }
+        ensures { λ r. ⌜ ((s : Scheduler) → s .meter ≡ meter → s .settings .thousandth ≡ thousandth
+            → r ≡ cond accepted (changedThread s reservation self) self) ⌝ }
+    {
+        if accepted {
+            let quantum = quota::quantum_of(reservation as u16, thousandth);
+            let allotment = quota::cut(self.allotment, quantum) as i32;
+            self.allotment = allotment;
+            self.reservation = reservation as u16;
+            self.anchor = meter;
+            self.since = 0;
+            return self;
+        }
+        self
+    }
+}
+
+impl Scheduler {
+    // Changes the reservation of a thread.
+    pub fn change(mut self, number: u64, reservation: u64) -> Answered
+        ensures { λ r. ⌜ r ≡ answeredTo (change number reservation) self ⌝ }
+    {
+        let test = self.tested();
+        let reserved = test.used;
+        let groups = self.groups;
+        let at = (number % 64) as usize;
+        let old = self.threads[at];
+        let group = old.group as u64;
+        let used = groups::load_of(groups, reserved, group);
+        let free = groups::free_in(groups, group, used);
+        let own = old.reservation as u64;
+        let room = free + own;
+        let code = change_code(
+            test.ok,
+            number,
+            old.status,
+            self.running,
+            reservation,
+            room,
+        );
+        let thread = old.changed_if(
+            code == 0,
+            self.meter,
+            self.settings.thousandth,
+            reservation,
+        );
+        self.threads[at] = thread;
+        Answered {
+            answer: threads::answered(code),
+            state: self,
+        }
+    }
+}
