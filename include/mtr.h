@@ -1,5 +1,5 @@
 /*
- * The move-to-rear list scheduler (MTR-LS), version 2.0.0, for C11 and C++11 or
+ * The move-to-rear list scheduler (MTR-LS), version 2.1.0, for C11 and C++11 or
  * later on x86-64.
  *
  * Written from the Rattle sources; do not edit. To renew it:
@@ -62,6 +62,7 @@
  *     mtr_wake             11216            4553
  *     mtr_dispatch         11216            5292
  *     mtr_report           11328            4841
+ *     mtr_change           11400            4800
  *     mtr_sound             5752            3936
  *     mtr_priority            16               8
  *     mtr_subtree           8252            6647
@@ -132,18 +133,18 @@ extern "C" {
 MTR_STRUCT(size_t, 8, 8);
 
 /* The version as text. */
-#define MTR_VERSION_TEXT "2.0.0"
+#define MTR_VERSION_TEXT "2.1.0"
 
 /* The version; mtr_version answers that of the library. */
 
 /* Major. */
 #define MTR_VERSION_MAJOR 2
 /* Minor. */
-#define MTR_VERSION_MINOR 0
+#define MTR_VERSION_MINOR 1
 /* Patch. */
 #define MTR_VERSION_PATCH 0
 /* One number: 10000 times the major, 100 times the minor, and the patch. */
-#define MTR_VERSION 20000
+#define MTR_VERSION 20100
 
 /* Numbers of threads and groups, and the parts of a block. */
 
@@ -216,7 +217,7 @@ typedef enum mtr_answer MTR_UNSIGNED {
     MTR_REFUSED_NO_THREAD = 7,
     /* The thread is already admitted. */
     MTR_REFUSED_ALREADY_ADMITTED = 8,
-    /* The thread to remove is running. */
+    /* The thread to remove or to change is running. */
     MTR_REFUSED_THREAD_RUNNING = 9,
     /* The thread to wake is not blocked. */
     MTR_REFUSED_NOT_BLOCKED = 10,
@@ -301,7 +302,9 @@ typedef enum mtr_kind MTR_UNSIGNED {
     /* Reports the running thread: reason, ticks (used). */
     MTR_KIND_REPORT = 7,
     /* Starts anew: amount (m), ticks (P), overrun (O). */
-    MTR_KIND_START = 8
+    MTR_KIND_START = 8,
+    /* Changes a thread's reservation: subject, amount (the reservation). */
+    MTR_KIND_CHANGE = 9
 } mtr_kind;
 
 /* What an answer says, in words. */
@@ -327,7 +330,7 @@ MTR_MUST_USE static inline const char *mtr_answer_text(mtr_answer answer)
     case MTR_REFUSED_ALREADY_ADMITTED:
         return "the thread is already admitted";
     case MTR_REFUSED_THREAD_RUNNING:
-        return "the thread to remove is running";
+        return "the thread to remove or to change is running";
     case MTR_REFUSED_NOT_BLOCKED:
         return "the thread to wake is not blocked";
     case MTR_REFUSED_NOTHING_RUNNING:
@@ -577,6 +580,8 @@ mtr_reply mtr_by_value_wake(mtr_scheduler state, uint64_t number);
 mtr_reply mtr_by_value_dispatch(mtr_scheduler state);
 mtr_reply mtr_by_value_report(mtr_scheduler state, uint64_t reason,
     uint64_t used);
+mtr_reply mtr_by_value_change(mtr_scheduler state, uint64_t number,
+    uint64_t reservation);
 uint32_t mtr_by_value_sound(mtr_scheduler state);
 mtr_mapped mtr_by_value_priority(uint64_t priority);
 mtr_total mtr_by_value_subtree(mtr_scheduler state, uint64_t group);
@@ -768,6 +773,32 @@ MTR_MUST_USE static inline mtr_answer mtr_report(mtr_scheduler *state,
     uint64_t reason, uint64_t used)
 {
     const mtr_reply reply = mtr_by_value_report(*state, reason, used);
+    if (reply.answer == MTR_ACCEPTED) {
+        *state = reply.state;
+    }
+    return MTR_CAST(mtr_answer, reply.answer);
+}
+
+/*
+ * Changes the reservation of a thread that does not run, in thousandths. The
+ * thread keeps its place in the list, and stays blocked if it is; its allotment
+ * is cut to the new quantum if it is larger and never raised; its lag is
+ * counted afresh from here, and its share goes on.
+ *
+ * Refuses, the first that applies:
+ *   16 MTR_REFUSED_UNSOUND: the state is not sound
+ *   7 MTR_REFUSED_NO_THREAD: the number is above 63 or not admitted
+ *   9 MTR_REFUSED_THREAD_RUNNING: the thread is running
+ *   4 MTR_REFUSED_AMOUNT: the reservation is outside 1 to 1000
+ *   5 MTR_REFUSED_NO_ROOM: the reservation exceeds what the thread's group
+ *       has free, its old reservation counted as free
+ * The state is then unchanged. Accepted, every other thread is unchanged, and
+ * so are the list and the groups.
+ */
+MTR_MUST_USE static inline mtr_answer mtr_change(mtr_scheduler *state,
+    uint64_t number, uint64_t reservation)
+{
+    const mtr_reply reply = mtr_by_value_change(*state, number, reservation);
     if (reply.answer == MTR_ACCEPTED) {
         *state = reply.state;
     }

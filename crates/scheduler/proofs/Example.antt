@@ -1,18 +1,20 @@
 -- The guarantee's hypotheses are met by concrete stretches, on which the definitions compute: the listing of RULE 10.1 from the state with
--- both threads admitted, and one with overruns, which the two limits need. Between them the worked example with an overrun limit.
-use Prim.Native.Nat.{_+_, _-_, _*_, _<_}
+-- both threads admitted, one with overruns, which the two limits need, and one with changes. Between them the worked example with an
+-- overrun limit; at the end two stretches in which a reservation is the same at both ends, but not in between, and a limit fails.
+use Prim.Native.Nat.{ℕ, _+_, _-_, _*_, _≤_, _<_}
 use mathlib.Core.Path.{_≡_, refl}
-use mathlib.Core.List.{List, [], _∷_, map}
+use mathlib.Core.List.{List, [], _∷_, _++_, map}
 use lib.ListN.{take, drop}
+use native.Mathlib.Omega.{arith}
 use lib.Dec.{T, lit<}
 use lib.IntN.{pos}
 use Rattle.scheduler.specs.declared.Scheduler.{Scheduler}
-use Rattle.scheduler.specs.State.{allotmentAt, withThread}
+use Rattle.scheduler.specs.State.{reservationAt, allotmentAt, withThread}
 use Rattle.scheduler.specs.Sound.{sound}
-use Rattle.scheduler.specs.Refusals.{Call, admit, wake, dispatch, report, startRefusal}
+use Rattle.scheduler.specs.Refusals.{Call, admit, wake, dispatch, report, change, startRefusal}
 use Rattle.scheduler.specs.Effects.{started}
 use Rattle.scheduler.specs.Stretch.{trace, final, allTicks, ticksBy, overrunsBeside, overrunsBy, Protected, Present, Owed}
-use Rattle.scheduler.specs.Stretch.{Unchanged, Second}
+use Rattle.scheduler.specs.Stretch.{throughout, keepsRunnable, Unchanged, Second}
 use Rattle.scheduler.proofs.Computes.{computes}
 use Rattle.scheduler.proofs.Guarantee.{owed, second}
 
@@ -134,3 +136,93 @@ steady-late = tt
 
 pub shared-late : Owed tardy overdue 7 × Second tardy overdue 7 5
 shared-late = (owed tardy tardy-sound overdue 7 seven-late, second tardy tardy-sound overdue 7 5 seven-late five-late steady-late)
+
+-- Changes: 5 goes from 500 to 300, which cuts its allotment to 30000, and to 900, which leaves what it has, until its next turn; 7 stays at
+-- 100, also by a change to 100. A change of the running thread is refused with 9, and 901 with 5: 600 are free, and 300 of its own.
+
+pub shifts : List Call
+shifts =
+    change 5 300 ∷ dispatch ∷ change 5 400 ∷ report 0 20000 ∷ change 7 100 ∷ change 5 901 ∷ change 5 900 ∷ dispatch ∷ report 0 10000
+    ∷ dispatch ∷ []
+
+shift-answers : map (λ e. e .reply .answer) (trace two shifts) ≡ 0 ∷ 0 ∷ 9 ∷ 0 ∷ 0 ∷ 5 ∷ 0 ∷ 0 ∷ 0 ∷ 0 ∷ []
+unfolding computes calls two shifts
+shift-answers = refl
+
+shift-slices : map (λ e. e .reply .slice) (trace two shifts) ≡ 0 ∷ 20000 ∷ 0 ∷ 0 ∷ 0 ∷ 0 ∷ 0 ∷ 10000 ∷ 0 ∷ 10000 ∷ []
+unfolding computes calls two shifts
+shift-slices = refl
+
+shift-allotments : (allotmentAt (final two (take 1 shifts)) 5 ≡ 30000) × (allotmentAt (final two (take 7 shifts)) 5 ≡ 10000)
+    × (allotmentAt (final two shifts) 5 ≡ 90000)
+unfolding computes calls two shifts
+shift-allotments = (refl, refl, refl)
+
+seven-beside : Protected two shifts 7
+unfolding computes calls two shifts
+seven-beside = record { reserved = tt; runnable = tt; keeps = tt; unchanged = tt }
+
+pub shared-shifts : Owed two shifts 7
+shared-shifts = owed two two-sound shifts 7 seven-beside
+
+-- RULE 9.4: it is not enough that x has its reservation at both ends. m = 1, P = 500; 7 and 5 have 500 each. In each round 7 is changed to 1,
+-- which cuts its allotment to 1, and back to 500, which does not raise it: it has 1 tick, and 5 its 500. Every other condition is met.
+
+pub halves : Scheduler
+halves = final (started 1 500 0) (admit 7 0 500 ∷ admit 5 0 500 ∷ [])
+
+swing : List Call
+swing = change 7 1 ∷ change 7 500 ∷ dispatch ∷ report 0 1 ∷ dispatch ∷ report 0 500 ∷ []
+
+pub swings : List Call
+swings = swing ++ swing ++ swing ++ swing
+
+halves-sound : T (sound halves)
+unfolding computes halves
+halves-sound = tt
+
+swing-kept : T (throughout (keepsRunnable 7) (halves .running) (trace halves swings))
+unfolding computes halves swing swings
+swing-kept = tt
+
+swing-ends : reservationAt (final halves swings) 7 ≡ reservationAt halves 7
+unfolding computes halves swing swings
+swing-ends = refl
+
+-- W = 2004, S = 4
+swing-sums : (allTicks (halves .running) (trace halves swings) ≡ 2004) × (ticksBy 7 (halves .running) (trace halves swings) ≡ 4)
+unfolding computes halves swing swings
+swing-sums = (refl, refl)
+
+pub swing-starves : Owed halves swings 7 → ⊥
+unfolding computes halves swing swings
+swing-starves h =
+    let broken : 500 * 2004 ≤ 1000 * 4 + 500000 + 250000 + 0 = h in
+    omega (arith, broken)
+
+-- RULE 9.5: and of y for the second limit. 5 has 1 thousandth and 7, which keeps its own, 500; 5 is changed to 500 for one turn and back.
+
+pub thin : Scheduler
+thin = final (started 1 500 0) (admit 5 0 1 ∷ admit 7 0 500 ∷ [])
+
+pub bulge : List Call
+bulge = change 5 500 ∷ dispatch ∷ report 0 1 ∷ dispatch ∷ report 0 500 ∷ dispatch ∷ report 0 500 ∷ change 5 1 ∷ []
+
+thin-sound : T (sound thin)
+unfolding computes thin
+thin-sound = tt
+
+bulge-kept : Protected thin bulge 7 × Present thin bulge 5
+unfolding computes thin bulge
+bulge-kept = (record { reserved = tt; runnable = tt; keeps = tt; unchanged = tt }, record { reserved = tt; keeps = tt })
+
+bulge-ends : reservationAt (final thin bulge) 5 ≡ reservationAt thin 5
+unfolding computes thin bulge
+bulge-ends = refl
+
+-- S = 500, S2 = 501
+pub bulge-takes : Second thin bulge 7 5 → ⊥
+unfolding computes thin bulge
+bulge-takes h =
+    let broken : 500 * 501 ≤ 1 * 500 + 1000 + 0 = h in
+    omega (arith, broken)

@@ -64,6 +64,11 @@ pub enum Event {
     /// The overrun limit stands in bytes that were zero before version 2.0.0,
     /// so that the start of an older journal has the limit 0.
     Start(Settings),
+    /// Since version 2.1.0; an older reader refuses the whole block.
+    Change {
+        thread: u8,
+        reservation: u16,
+    },
 }
 
 impl From<Event> for Record {
@@ -124,6 +129,15 @@ impl From<Event> for Record {
                 ticks: settings.interval,
                 ..zero
             },
+            Event::Change {
+                thread,
+                reservation,
+            } => Record {
+                kind: raw::KIND_CHANGE,
+                subject: thread,
+                amount: reservation,
+                ..zero
+            },
         }
     }
 }
@@ -164,6 +178,10 @@ impl TryFrom<Record> for Event {
                 interval: record.ticks,
                 overrun: record.overrun,
             }),
+            raw::KIND_CHANGE => Event::Change {
+                thread: record.subject,
+                reservation: record.amount,
+            },
             _ => return Err(Refusal::Form),
         };
         // A field that the kind does not use is lost in the event.

@@ -61,6 +61,12 @@ pub fn report(state: Scheduler, reason: u64, used: u64) -> Reply {
     raw::mtr_by_value_report(state, reason, used)
 }
 
+/// Changes the reservation of a thread that does not run.
+#[inline]
+pub fn change(state: Scheduler, number: u64, reservation: u64) -> Reply {
+    raw::mtr_by_value_change(state, number, reservation)
+}
+
 /// The state is sound.
 #[inline]
 pub fn sound(state: Scheduler) -> bool {

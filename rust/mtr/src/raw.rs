@@ -34,11 +34,11 @@ macro_rules! layout {
 /// Major.
 pub const VERSION_MAJOR: u32 = 2;
 /// Minor.
-pub const VERSION_MINOR: u32 = 0;
+pub const VERSION_MINOR: u32 = 1;
 /// Patch.
 pub const VERSION_PATCH: u32 = 0;
 /// One number: 10000 times the major, 100 times the minor, and the patch.
-pub const VERSION: u32 = 20000;
+pub const VERSION: u32 = 20100;
 
 // Numbers of threads and groups, and the parts of a block.
 
@@ -107,7 +107,7 @@ pub const REFUSED_GROUP_IN_USE: u32 = 6;
 pub const REFUSED_NO_THREAD: u32 = 7;
 /// The thread is already admitted.
 pub const REFUSED_ALREADY_ADMITTED: u32 = 8;
-/// The thread to remove is running.
+/// The thread to remove or to change is running.
 pub const REFUSED_THREAD_RUNNING: u32 = 9;
 /// The thread to wake is not blocked.
 pub const REFUSED_NOT_BLOCKED: u32 = 10;
@@ -186,6 +186,8 @@ pub const KIND_DISPATCH: u8 = 6;
 pub const KIND_REPORT: u8 = 7;
 /// Starts anew: amount (m), ticks (P), overrun (O).
 pub const KIND_START: u8 = 8;
+/// Changes a thread's reservation: subject, amount (the reservation).
+pub const KIND_CHANGE: u8 = 9;
 
 /// What an answer says, in words.
 pub const fn answer_text(answer: u32) -> &'static str {
@@ -203,7 +205,7 @@ pub const fn answer_text(answer: u32) -> &'static str {
         REFUSED_GROUP_IN_USE => "the group has a thread or a child",
         REFUSED_NO_THREAD => "the thread's number is above 63 or not admitted",
         REFUSED_ALREADY_ADMITTED => "the thread is already admitted",
-        REFUSED_THREAD_RUNNING => "the thread to remove is running",
+        REFUSED_THREAD_RUNNING => "the thread to remove or to change is running",
         REFUSED_NOT_BLOCKED => "the thread to wake is not blocked",
         REFUSED_NOTHING_RUNNING => "nothing is running",
         REFUSED_BUSY => "a thread is running",
@@ -584,6 +586,23 @@ unsafe extern "C" {
     /// The state is then unchanged. Accepted, every other thread and the
     /// others' mutual order are unchanged, and so are the groups.
     pub safe fn mtr_by_value_report(state: Scheduler, reason: u64, used: u64) -> Reply;
+
+    /// Changes the reservation of a thread that does not run, in thousandths.
+    /// The thread keeps its place in the list, and stays blocked if it is; its
+    /// allotment is cut to the new quantum if it is larger and never raised;
+    /// its lag is counted afresh from here, and its share goes on.
+    ///
+    /// Refuses, the first that applies:
+    /// - 16 [`REFUSED_UNSOUND`]: the state is not sound
+    /// - 7 [`REFUSED_NO_THREAD`]: the number is above 63 or not admitted
+    /// - 9 [`REFUSED_THREAD_RUNNING`]: the thread is running
+    /// - 4 [`REFUSED_AMOUNT`]: the reservation is outside 1 to 1000
+    /// - 5 [`REFUSED_NO_ROOM`]: the reservation exceeds what the thread's group
+    ///   has free, its old reservation counted as free
+    ///
+    /// The state is then unchanged. Accepted, every other thread is unchanged,
+    /// and so are the list and the groups.
+    pub safe fn mtr_by_value_change(state: Scheduler, number: u64, reservation: u64) -> Reply;
 
     /// Answers 1 if the state is sound, else 0.
     ///

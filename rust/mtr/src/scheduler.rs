@@ -268,6 +268,36 @@ impl Scheduler {
         ))
     }
 
+    /// Changes the reservation of a thread that does not run. The thread keeps
+    /// its place, and stays blocked if it is. Its allotment is cut to the new
+    /// quantum if it is larger and never raised: a thread that is given more
+    /// has it from its next turn on. Its lag is counted afresh from here; its
+    /// share goes on. Refused with [`NoThread`](Refusal::NoThread),
+    /// [`ThreadRunning`](Refusal::ThreadRunning),
+    /// [`Amount`](Refusal::Amount) or [`NoRoom`](Refusal::NoRoom); what the
+    /// thread has already counts as free.
+    ///
+    /// ```
+    /// use mtr::{Refusal, Scheduler};
+    ///
+    /// let mut scheduler = Scheduler::default();
+    /// scheduler.admit(5, 0, 500)?;
+    /// scheduler.admit(7, 0, 100)?;
+    ///
+    /// // 400 are free, and 500 of its own.
+    /// assert_eq!(scheduler.change(5, 901), Err(Refusal::NoRoom));
+    /// scheduler.change(5, 900)?;
+    /// scheduler.change(5, 500)?;
+    /// # Ok::<(), Refusal>(())
+    /// ```
+    pub fn change(&mut self, thread: u8, reservation: u16) -> Result<(), Refusal> {
+        self.take(numbers::change(
+            self.state,
+            thread.into(),
+            reservation.into(),
+        ))
+    }
+
     /// Makes the call of an event. An accepted start replaces the state; only a
     /// dispatch has something to tell. Refused as the call is, and a report
     /// also with [`Reason`](Refusal::Reason).
@@ -301,6 +331,10 @@ impl Scheduler {
                 self.take(numbers::report(self.state, reason.into(), used.into()))?
             }
             Event::Start(settings) => *self = Scheduler::new(settings)?,
+            Event::Change {
+                thread,
+                reservation,
+            } => self.change(thread, reservation)?,
         }
         Ok(None)
     }
