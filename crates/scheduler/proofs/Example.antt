@@ -165,8 +165,8 @@ seven-beside = record { reserved = tt; runnable = tt; keeps = tt; unchanged = tt
 pub shared-shifts : Owed two shifts 7
 shared-shifts = owed two two-sound shifts 7 seven-beside
 
--- RULE 9.4: it is not enough that x has its reservation at both ends. m = 1, P = 500; 7 and 5 have 500 each. In each round 7 is changed to 1,
--- which cuts its allotment to 1, and back to 500, which does not raise it: it has 1 tick, and 5 its 500. Every other condition is met.
+-- RULE 9.4: it is not enough that x has its reservation at both ends. m = 1, P = 500; 7 and 5 have 500 each. In each round 7 is changed to
+-- 1, which cuts its allotment to 1, and back to 500, which does not raise it: it has 1 tick, and 5 its 500. Every other condition is met.
 
 pub halves : Scheduler
 halves = final (started 1 500 0) (admit 7 0 500 ∷ admit 5 0 500 ∷ [])

@@ -152,7 +152,8 @@ owed s t cs x px =
     throughout-map (keepsRunnable x) (keepsAdmitted x) (runnable-admitted x) last es (px .keeps) in
     let sums : f * ticksIn sel last es + potential f h sel x (final s cs) ≤ potential f h sel x s + h * ticksIn (λ n. eqb n x) last es
     + f * overrunsIn sel last es =
-    stretch f f h sel x x (ap not (eq-eqb x x refl)) (others x f) cs s last (λ _. refl) guard res (px .keeps) (px .unchanged) stays (px .unchanged) in
+    stretch f f h sel x x (ap not (eq-eqb x x refl)) (others x f) cs s last (λ _. refl) guard res (px .keeps) (px .unchanged) stays
+    (px .unchanged) in
     let w = mul-le-mul-left f (weight-all s k sel x h (others x f s t guard res)) in
     let all = owed-all f h m p (ticksIn anyone last es) (ticksIn sel last es) (ticksIn (λ n. eqb n x) last es) (weight sel x s)
     (f * m - allotmentAt s x) (overrunsIn sel last es) (omega arith) (ticks-split x last es) (sub-le (f * m) (allotmentAt s x))

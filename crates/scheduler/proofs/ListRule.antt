@@ -29,7 +29,7 @@ use Rattle.scheduler.proofs.Facts.{take-off, room, listed-join, thread-
 use Rattle.scheduler.proofs.Passed.{passes, admit-passed, remove-passed, wake-passed, report-passed, change-ok, reported-rear}
 use Rattle.scheduler.proofs.Passed.{reported-cases}
 use Rattle.scheduler.proofs.Steps.{step-state, refused-state, woken-listed, chosen-runnable, after-fits, charged-left}
-use Rattle.scheduler.proofs.Steps.{woken-allotment, allotment-other, changed-allotment}
+use Rattle.scheduler.proofs.Steps.{woken-allotment, changed-listed, changed-allotment}
 use Rattle.scheduler.specs.Accounts.{lagOf}
 
 -- the thread that a call puts into the list, takes off it or may move, or 64
@@ -195,12 +195,11 @@ pub change-keeps : (n d : ℕ) (s : Scheduler) → refusal (change n d) s ≡ 0
     → (listed (effect (change n d) s) ≡ listed s)
     × (allotmentAt (effect (change n d) s) n ≡ min (allotmentAt s n) (quantum s d))
     × ((j : ℕ) → (j ≡ n → ⊥) → threadAt (effect (change n d) s) j ≡ threadAt s j)
-unfolding effect listed withThread
+unfolding effect
 change-keeps n d s e =
     let ok = passes (change n d) s e in
-    let a = reserved-admitted s n ((change-ok s n d (ok .1)) .reserved) in
-    (
-      refl,
+    let a = reserved-admitted s n ((change-ok s n d (ok .1)) .reserved) in (
+      changed-listed n d s,
       changed-allotment s n d (in-threads s (facts s (ok .0)) n a),
       thread-other s n (changedThread s d (threadAt s n)),
     )
@@ -211,8 +210,7 @@ pub never-raised : (n d : ℕ) (s : Scheduler) → refusal (change n d) s ≡ 0
 unfolding allotmentAt
 never-raised n d s e =
     let k = change-keeps n d s e in
-    let cut = k .1 in
-    (
+    let cut = k .1 in (
       λ j.
           by (λ b. eqb j n ≡ b → allotmentAt (effect (change n d) s) j ≤ allotmentAt s j) (eqb j n)
           (λ q _.

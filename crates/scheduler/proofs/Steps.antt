@@ -1,6 +1,6 @@
 -- Small laws of the definitions: the state after a call, accepted or refused, by cases on its refusal; the meter after a call, the list
--- after a wake, the chosen thread, the most that a report may use; and a thread's allotment and slice after a thread is replaced, charged,
--- woken or changed, read off the table.
+-- after a wake and after a change, the chosen thread, the most that a report may use; and a thread's allotment and slice after a thread is
+-- replaced, charged, woken or changed, read off the table.
 use Prim.Native.Nat.{ℕ, _+_, _-_, _*_, min, _≤_, _<_}
 use mathlib.Core.Path.{_≡_, refl, ap, _∙_}
 use mathlib.Core.Bool.{true, false, cond}
@@ -58,6 +58,11 @@ meter-step (change n f) s = omega arith
 pub woken-listed : (n : ℕ) (s : Scheduler) → listed (effect (wake n) s) ≡ listed s
 unfolding effect withThread withList toRear listed
 woken-listed n s = refl
+
+-- and so does a change
+pub changed-listed : (n d : ℕ) (s : Scheduler) → listed (effect (change n d) s) ≡ listed s
+unfolding effect withThread withList toRear listed
+changed-listed n d s = refl
 
 -- the chosen thread stands in the list and is runnable
 pub chosen-runnable : (s : Scheduler) → (chosen s ≡ 64 → ⊥) → T (member (chosen s) (listed s)) × T (runnableAt s (chosen s))

@@ -1,5 +1,5 @@
-// Change: another reservation for a thread that does not run. It keeps its place and its status; its allotment is cut to the new quantum and
-// never raised, and its anchor is set.
+// Change: another reservation for a thread that does not run. It keeps its place and its status; its allotment is cut to the new quantum
+// and never raised, and its anchor is set.
 ghost use mathlib.Core.Path.{_≡_};
 ghost use mathlib.Core.Bool.{true, not, cond, _||_};
 ghost use mathlib.Core.List.{[], _∷_};
@@ -18,14 +18,7 @@ use crate::threads;
 
 // The number that a change of a thread of a status is refused with, or 0. `room` is what the thread's group has free, its old reservation
 // counted as free.
-fn change_code(
-    ok: bool,
-    number: u64,
-    status: u8,
-    running: u32,
-    reservation: u64,
-    room: u64,
-) -> u32
+fn change_code(ok: bool, number: u64, status: u8, running: u32, reservation: u64, room: u64) -> u32
     ensures { λ r. ⌜ r ≡ firstOf ((not ok ⇒ 16) ∷ (ltb 63 number || not (ltb 0 status) ⇒ 7) ∷ (eqb running number ⇒ 9)
         ∷ (not (within 1 1000 reservation) ⇒ 4) ∷ (ltb room reservation ⇒ 5) ∷ []) ⌝ }
 {
@@ -87,20 +80,8 @@ impl Scheduler {
         let free = groups::free_in(groups, group, used);
         let own = old.reservation as u64;
         let room = free + own;
-        let code = change_code(
-            test.ok,
-            number,
-            old.status,
-            self.running,
-            reservation,
-            room,
-        );
-        let thread = old.changed_if(
-            code == 0,
-            self.meter,
-            self.settings.thousandth,
-            reservation,
-        );
+        let code = change_code(test.ok, number, old.status, self.running, reservation, room);
+        let thread = old.changed_if(code == 0, self.meter, self.settings.thousandth, reservation);
         self.threads[at] = thread;
         Answered {
             answer: threads::answered(code),

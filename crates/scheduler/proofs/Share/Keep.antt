@@ -175,8 +175,9 @@ held y last (change n d) s e at a k =
     (λ q _.
     subst (λ (j : ℕ). Held y last (change j d) s (withThread s j (changedThread s d (threadAt s j)))) (eqb-true y n q)
     (held-changed y last d s (in-threads s (facts s ((passes (change n d) s e) .0)) y a)))
-    (λ q _. untouched y last (change n d) s (effect (change n d) s) (thread-other s n (changedThread s d (threadAt s n)) y (eqb-false y n q))
-    (cond-zero (eqb last y)))
+    (λ q _.
+    let t = changedThread s d (threadAt s n) in
+    untouched y last (change n d) s (effect (change n d) s) (thread-other s n t y (eqb-false y n q)) (cond-zero (eqb last y)))
     refl
 
 -- a thread that stays runnable stays admitted

@@ -77,7 +77,8 @@ change-facts s k n d ok =
       meter-most = k .meter;
       order64 = k .order64;
       count64 = k .count64;
-      members = listed-kept (reservedAt s) (reservedAt (withThread s n t)) (listed s) (reserved-kept s n t inside (ok .reserved)) (k .members);
+      members =
+          listed-kept (reservedAt s) (reservedAt (withThread s n t)) (listed s) (reserved-kept s n t inside (ok .reserved)) (k .members);
       once = k .once;
       others = λ j ne m. m;
       own-list = λ _. q .in-list;

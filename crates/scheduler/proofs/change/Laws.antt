@@ -60,7 +60,8 @@ module _ (s : Scheduler) (n d : ℕ) where
     pub change-fits : eqb k 0 ≡ true → d ≤ 1000
     change-fits t = (changes (sym e ∙ eqb-true k 0 t)) .at-most
 
-    pub change-done : (a : Answer) → a ≡ cond (eqb k 0) Accepted (Refused k) → (t : Thread) → t ≡ cond (eqb k 0) (changedThread s d entry) entry
+    pub change-done : (a : Answer) → a ≡ cond (eqb k 0) Accepted (Refused k)
+        → (t : Thread) → t ≡ cond (eqb k 0) (changedThread s d entry) entry
         → answered a (withThread s (n % 64) t) ≡ answeredTo (change n d) s
     unfolding effect isDispatch
     change-done a q t qt =
