@@ -30,14 +30,22 @@
  * allotment is a debt: the thread moves to the rear, and its next allotment is
  * its quantum less the debt. With O = 0 a report uses at most its slice.
  *
+ * Reservations that change. mtr_change gives an admitted thread more or less of
+ * the core. The running thread is refused with MTR_REFUSED_THREAD_RUNNING, so
+ * that the host makes the call between a report and the next dispatch. Less
+ * holds at once, more from the thread's next turn on. Where its group has too
+ * little free, another thread of the group makes room first and gets it back
+ * last. The bound on what a thread is owed holds from one change of its
+ * reservation to the next.
+ *
  * Threads and interrupts. The library has no memory of its own, allocates none,
  * and of libc calls the mem functions alone. A call touches what it is handed
  * and the stack, nothing else, so that calls on different states are
  * independent: on several cores, in threads, in interrupt handlers. A call on a
  * state is not atomic. Where two could meet on one state, the host keeps them
  * apart, with a lock, or with interrupts off where a handler makes one of them.
- * A handler that cannot wait leaves a note (the number to wake) to the loop that
- * dispatches. A call never waits and never calls back.
+ * A handler that cannot wait leaves a note (the number to wake or to change) to
+ * the loop that dispatches. A call never waits and never calls back.
  *
  * Machine. The library is compiled for the System V calling convention. It uses
  * the general and the SSE registers (no AVX, no x87, no thread-local storage)

@@ -1,7 +1,7 @@
 -- The guarantee's hypotheses are met by concrete stretches, on which the definitions compute: the listing of RULE 10.1 from the state with
 -- both threads admitted, one with overruns, which the two limits need, and one with changes. Between them the worked example with an
 -- overrun limit; at the end two stretches in which a reservation is the same at both ends, but not in between, and a limit fails.
-use Prim.Native.Nat.{ℕ, _+_, _-_, _*_, _≤_, _<_}
+use Prim.Native.Nat.{_+_, _-_, _*_, _≤_, _<_}
 use mathlib.Core.Path.{_≡_, refl}
 use mathlib.Core.List.{List, [], _∷_, _++_, map}
 use lib.ListN.{take, drop}

@@ -268,7 +268,7 @@ preserved c s e = sound-of (effect c s) (go c e)
     go (wake n) e =
         let ok = passes (wake n) s e in
         let a = wake-passed s n (ok .1) in
-        wake-facts s (facts s (ok .0)) n ((facts s (ok .0)) .small n a) a
+        wake-facts s (facts s (ok .0)) n a
     go dispatch e =
         let ok = passes dispatch s e in
         dispatch-facts s (facts s (ok .0)) (dispatch-early s (ok .1))

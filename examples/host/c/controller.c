@@ -1,14 +1,14 @@
 /*
- * A controller's main loop on a virtual clock, in C: readout, pumps, the lab's viewer and an exporter that waits for a
- * server whose replies come sooner or later, under a timer that fires up to 50 ticks late. Every call of the scheduler is
- * journalled into event blocks.
+ * A controller's main loop on a virtual clock, in C: readout, pumps, an archive, the lab's viewer and an exporter that waits
+ * for a server whose replies come sooner or later, under a timer that fires up to 50 ticks late. For a while a method change
+ * needs more readout. Every call of the scheduler is journalled into event blocks.
  *
  *     cc -std=c11 -O2 -Iinclude examples/host/c/controller.c target/staticlib/libabi.a -o target/controller
  *     target/controller SEED JOURNAL [MILLISECONDS]
  *
  * Standard output has a line for each call, as mtrrun prints it for the call's record (number, answer, thread, slice,
- * threads before it), and at the end the roster and each thread's largest debt. `target/bin/mtrrun < JOURNAL` prints the
- * same lines but for roster and debts. examples/host/rust is the same host in Rust.
+ * threads before it), and at the end the roster, each thread's largest debt and readout's share under each reservation.
+ * `target/bin/mtrrun < JOURNAL` prints the same lines but for these tables. examples/host/rust is the same host in Rust.
  */
 #include <errno.h>
 #include <inttypes.h>
@@ -35,13 +35,18 @@ static _Noreturn void fail(const char *what)
     exit(EXIT_FAILURE);
 }
 
+/* Ends the host where a call that it relies on is refused. */
+static void must(mtr_answer answer)
+{
+    if (answer != MTR_ACCEPTED)
+        fail(mtr_answer_text(answer));
+}
+
 /* Writes the records held as the next block. */
 static void flush_block(host *h)
 {
     uint8_t area[MTR_BLOCK_BYTES];
-    const mtr_answer answer = mtr_write_block(area, sizeof area, h->block, &h->list, h->count);
-    if (answer != MTR_ACCEPTED)
-        fail(mtr_answer_text(answer));
+    must(mtr_write_block(area, sizeof area, h->block, &h->list, h->count));
     if (fwrite(area, sizeof area, 1, h->journal) != 1)
         fail("the journal cannot be written");
     h->block += 1;
@@ -66,6 +71,8 @@ static mtr_answer make(mtr_scheduler *state, const mtr_record *r, mtr_run *run)
         return mtr_dispatch(state, run);
     case MTR_KIND_REPORT:
         return mtr_report(state, r->reason, r->ticks);
+    case MTR_KIND_CHANGE:
+        return mtr_change(state, r->subject, r->amount);
     default:
         return mtr_start(state, r->amount, r->ticks, r->overrun);
     }
@@ -86,41 +93,41 @@ static mtr_answer call(host *h, mtr_record r, mtr_run *run)
     return answer;
 }
 
-/* A call that has nothing to tell but its answer, which is printed. */
-static void tell(host *h, mtr_record r)
+/* A call that has nothing to tell but its answer. */
+static mtr_answer tell(host *h, mtr_record r)
 {
     mtr_run none;
-    call(h, r, &none);
+    return call(h, r, &none);
 }
 
-static void start(host *h, uint16_t thousandth, uint32_t interval, uint16_t overrun)
+static mtr_answer start(host *h, uint16_t thousandth, uint32_t interval, uint16_t overrun)
 {
-    tell(h, (mtr_record){ .kind = MTR_KIND_START, .amount = thousandth, .overrun = overrun, .ticks = interval });
+    return tell(h, (mtr_record){ .kind = MTR_KIND_START, .amount = thousandth, .overrun = overrun, .ticks = interval });
 }
 
-static void open_group(host *h, uint8_t group, uint8_t parent, uint16_t ceiling)
+static mtr_answer open_group(host *h, uint8_t group, uint8_t parent, uint16_t ceiling)
 {
-    tell(h, (mtr_record){ .kind = MTR_KIND_OPEN, .subject = group, .group = parent, .amount = ceiling });
+    return tell(h, (mtr_record){ .kind = MTR_KIND_OPEN, .subject = group, .group = parent, .amount = ceiling });
 }
 
-static void close_group(host *h, uint8_t group)
+static mtr_answer close_group(host *h, uint8_t group)
 {
-    tell(h, (mtr_record){ .kind = MTR_KIND_CLOSE, .subject = group });
+    return tell(h, (mtr_record){ .kind = MTR_KIND_CLOSE, .subject = group });
 }
 
-static void admit(host *h, uint8_t thread, uint8_t group, uint16_t reservation)
+static mtr_answer admit(host *h, uint8_t thread, uint8_t group, uint16_t reservation)
 {
-    tell(h, (mtr_record){ .kind = MTR_KIND_ADMIT, .subject = thread, .group = group, .amount = reservation });
+    return tell(h, (mtr_record){ .kind = MTR_KIND_ADMIT, .subject = thread, .group = group, .amount = reservation });
 }
 
-static void remove_thread(host *h, uint8_t thread)
+static mtr_answer remove_thread(host *h, uint8_t thread)
 {
-    tell(h, (mtr_record){ .kind = MTR_KIND_REMOVE, .subject = thread });
+    return tell(h, (mtr_record){ .kind = MTR_KIND_REMOVE, .subject = thread });
 }
 
-static void wake(host *h, uint8_t thread)
+static mtr_answer wake(host *h, uint8_t thread)
 {
-    tell(h, (mtr_record){ .kind = MTR_KIND_WAKE, .subject = thread });
+    return tell(h, (mtr_record){ .kind = MTR_KIND_WAKE, .subject = thread });
 }
 
 static mtr_answer dispatch(host *h, mtr_run *run)
@@ -128,9 +135,14 @@ static mtr_answer dispatch(host *h, mtr_run *run)
     return call(h, (mtr_record){ .kind = MTR_KIND_DISPATCH }, run);
 }
 
-static void report(host *h, uint8_t reason, uint32_t used)
+static mtr_answer report(host *h, uint8_t reason, uint32_t used)
 {
-    tell(h, (mtr_record){ .kind = MTR_KIND_REPORT, .reason = reason, .ticks = used });
+    return tell(h, (mtr_record){ .kind = MTR_KIND_REPORT, .reason = reason, .ticks = used });
+}
+
+static mtr_answer change(host *h, uint8_t thread, uint16_t reservation)
+{
+    return tell(h, (mtr_record){ .kind = MTR_KIND_CHANGE, .subject = thread, .amount = reservation });
 }
 
 /* Ticks left of a thread's quantum. */
@@ -141,10 +153,13 @@ static int32_t allotment(const host *h, unsigned thread)
 
 /* ---- the simulated threads ---- */
 
-enum { READOUT, PUMPS, VIEWER, EXPORTER, SELF_TEST, TASKS };
+enum { READOUT, PUMPS, VIEWER, EXPORTER, SELF_TEST, ARCHIVE, TASKS };
 
 /* The lab's side of the controller, in a group of its own. */
-enum { LAB = 1, LAB_CEILING = 300 };
+enum { LAB = 1, LAB_CEILING = 150 };
+
+/* Readout during a method change, and the archive, which makes room for it. */
+enum { RAISED = 700, LOWERED = 50 };
 
 /* The most ticks that the timer fires after the end of a slice: the overrun limit that the scheduler is started with. */
 enum { LATEST = 50 };
@@ -164,9 +179,10 @@ typedef struct task {
 static const task tasks[TASKS] = {
     [READOUT] = { 0, 500, 0, 0, MTR_REASON_TICK, 0, 0, 1 },
     [PUMPS] = { 0, 100, 600, 900, MTR_REASON_BLOCK, 10000, 10000, 1 },
-    [VIEWER] = { LAB, 100, 3000, 8000, MTR_REASON_YIELD, 0, 0, 1 },
+    [VIEWER] = { LAB, 50, 3000, 8000, MTR_REASON_YIELD, 0, 0, 1 },
     [EXPORTER] = { LAB, 100, 1500, 4000, MTR_REASON_BLOCK, 200, 3000, 10 },
     [SELF_TEST] = { 0, 50, 5000, 5000, MTR_REASON_EXIT, 0, 0, 1 },
+    [ARCHIVE] = { 0, 200, 0, 0, MTR_REASON_TICK, 0, 0, 1 },
 };
 
 static const uint64_t NEVER = UINT64_MAX;
@@ -184,6 +200,10 @@ typedef struct world {
     uint64_t due[TASKS];
     /* The largest debt of each. */
     debt debts[TASKS];
+    /* How many steps of the run are done, and whether readout is before, in or after its method change. */
+    unsigned steps, stretch;
+    /* Ticks of all threads in each of these stretches, and readout's own. */
+    uint64_t all[3], own[3];
 } world;
 
 /* SplitMix64, from low to high. */
@@ -205,8 +225,35 @@ static void begin_burst(world *w, unsigned n)
 
 static void admit_task(host *h, world *w, unsigned n)
 {
-    admit(h, (uint8_t)n, tasks[n].group, tasks[n].reservation);
+    must(admit(h, (uint8_t)n, tasks[n].group, tasks[n].reservation));
     begin_burst(w, n);
+}
+
+/*
+ * A method change needs more readout. The archive makes room first; where there is still too little, it gets its own back and
+ * readout goes on with what it has. A running thread can't be changed, so this is done between a report and a dispatch.
+ */
+static void raise_readout(host *h, world *w)
+{
+    must(change(h, ARCHIVE, LOWERED));
+    const mtr_answer answer = change(h, READOUT, RAISED);
+    if (answer == MTR_REFUSED_NO_ROOM) {
+        must(change(h, ARCHIVE, tasks[ARCHIVE].reservation));
+        fprintf(stderr, "controller: no room for %d, readout goes on with %d\n", RAISED, tasks[READOUT].reservation);
+        return;
+    }
+    must(answer);
+    w->stretch = 1;
+}
+
+/* After the method change: readout goes back first, so that the archive has room. */
+static void restore_readout(host *h, world *w)
+{
+    if (w->stretch != 1)
+        return;
+    must(change(h, READOUT, tasks[READOUT].reservation));
+    must(change(h, ARCHIVE, tasks[ARCHIVE].reservation));
+    w->stretch = 2;
 }
 
 /* Power-up, and mistakes that a host can make: each of those is refused and changes nothing. */
@@ -228,15 +275,19 @@ static void boot(host *h, world *w)
     admit(h, MTR_THREADS, 0, 1);
     admit(h, TASKS, LAB, LAB_CEILING);
     close_group(h, LAB);
+    change(h, MTR_THREADS, 1);
+    change(h, READOUT, MTR_WHOLE + 1);
+    /* Too early: the self-test still has its reservation. */
+    raise_readout(h, w);
 }
 
 /* The lab's network is set up again: its threads and its group go and come back. */
 static void reconnect(host *h, world *w)
 {
-    remove_thread(h, VIEWER);
-    remove_thread(h, EXPORTER);
-    close_group(h, LAB);
-    open_group(h, LAB, 0, LAB_CEILING);
+    must(remove_thread(h, VIEWER));
+    must(remove_thread(h, EXPORTER));
+    must(close_group(h, LAB));
+    must(open_group(h, LAB, 0, LAB_CEILING));
     admit_task(h, w, VIEWER);
     admit_task(h, w, EXPORTER);
 }
@@ -248,6 +299,7 @@ static void confuse(host *h, uint8_t running, uint32_t slice)
     dispatch(h, &none);
     wake(h, running);
     remove_thread(h, running);
+    change(h, running, 1);
     report(h, MTR_REASON_EXIT + 1, 0);
     report(h, MTR_REASON_TICK, slice + LATEST + 1);
 }
@@ -261,13 +313,15 @@ static uint64_t next_due(const world *w)
     return next;
 }
 
-/* Reports all ticks that the running thread used, those beyond its slice too, and notes what it owes for them. */
+/* Reports all ticks that the running thread used, those beyond its slice too, and notes them and what it owes for them. */
 static void end_run(host *h, world *w, unsigned n, uint8_t reason, uint32_t used)
 {
     const int32_t owed = (int32_t)used - allotment(h, n);
-    report(h, reason, used);
+    must(report(h, reason, used));
     if (owed > w->debts[n].owed)
         w->debts[n] = (debt){ owed, allotment(h, n) };
+    w->all[w->stretch] += used;
+    w->own[w->stretch] += n == READOUT ? used : 0;
 }
 
 /*
@@ -284,11 +338,8 @@ static void run(host *h, world *w, unsigned n, uint32_t slice)
     if (next - w->clock < used)
         used = (uint32_t)(next - w->clock);
     w->clock += used;
-    if (t->burst_high == 0) {
-        end_run(h, w, n, MTR_REASON_TICK, used);
-        return;
-    }
-    w->left[n] -= used;
+    if (t->burst_high > 0)
+        w->left[n] -= used;
     if (w->left[n] > 0) {
         end_run(h, w, n, MTR_REASON_TICK, used);
         return;
@@ -303,24 +354,21 @@ static void run(host *h, world *w, unsigned n, uint32_t slice)
 
 static void simulate(host *h, world *w, uint64_t end)
 {
+    static void (*const steps[])(host *, world *) = { raise_readout, reconnect, restore_readout };
     boot(h, w);
-    int connected = 0;
     uint64_t dispatches = 0;
     while (w->clock < end) {
-        if (!connected && w->clock >= end / 2) {
-            reconnect(h, w);
-            connected = 1;
-        }
+        /* A step at each quarter of the run. Nothing runs here. */
+        while (w->steps < 3 && w->clock >= (w->steps + 1) * (end / 4))
+            steps[w->steps++](h, w);
         for (unsigned n = 0; n < TASKS; n++) {
             if (w->due[n] <= w->clock) {
-                wake(h, (uint8_t)n);
+                must(wake(h, (uint8_t)n));
                 w->due[n] = NEVER;
             }
         }
         mtr_run choice;
-        const mtr_answer answer = dispatch(h, &choice);
-        if (answer != MTR_ACCEPTED)
-            fail(mtr_answer_text(answer));
+        must(dispatch(h, &choice));
         if (choice.thread == MTR_NO_THREAD) {
             /* Readout is always runnable, so this host is never idle after power-up. Others sleep until the next wake. */
             w->clock = next_due(w);
@@ -342,19 +390,21 @@ static void print_roster(const host *h)
     };
     mtr_entry table[MTR_THREADS];
     size_t filled;
-    const mtr_answer answer = mtr_roster(&h->state, table, MTR_THREADS, &filled);
-    if (answer != MTR_ACCEPTED)
-        fail(mtr_answer_text(answer));
+    must(mtr_roster(&h->state, table, MTR_THREADS, &filled));
     for (size_t i = 0; i < filled; i++)
         printf("roster %" PRIu32 " %s %" PRId32 " %" PRId64 " %" PRIu32 "\n", table[i].number, states[table[i].state],
             table[i].allotment, table[i].lag, table[i].share);
 }
 
-static void print_debts(const world *w)
+/* The debts; then for each stretch readout's reservation, the ticks of all threads, and readout's thousandths of them. */
+static void print_figures(const world *w)
 {
     for (unsigned n = 0; n < TASKS; n++)
         if (w->debts[n].owed > 0)
             printf("debt %u %" PRId32 " %" PRId32 "\n", n, w->debts[n].owed, w->debts[n].left);
+    for (unsigned i = 0; i <= w->stretch; i++)
+        printf("readout %d %" PRIu64 " %" PRIu64 "\n", i == 1 ? RAISED : tasks[READOUT].reservation, w->all[i],
+            w->all[i] == 0 ? 0 : 1000 * w->own[i] / w->all[i]);
 }
 
 /* Reads a whole number, decimal. */
@@ -379,9 +429,7 @@ int main(int argc, char **argv)
     if (mtr_version() != MTR_VERSION)
         fail("the library is not of the header's version");
     /* A host that has a state before its first start: the first record, below, is a start that is refused. */
-    const mtr_answer answer = mtr_start(&h.state, MTR_DEFAULT_THOUSANDTH, MTR_DEFAULT_INTERVAL, MTR_DEFAULT_OVERRUN);
-    if (answer != MTR_ACCEPTED)
-        fail(mtr_answer_text(answer));
+    must(mtr_start(&h.state, MTR_DEFAULT_THOUSANDTH, MTR_DEFAULT_INTERVAL, MTR_DEFAULT_OVERRUN));
     h.journal = fopen(argv[2], "wb");
     if (h.journal == NULL)
         fail("the journal cannot be opened");
@@ -394,7 +442,7 @@ int main(int argc, char **argv)
     if (fclose(h.journal) != 0)
         fail("the journal cannot be written");
     print_roster(&h);
-    print_debts(&w);
+    print_figures(&w);
     if (fflush(stdout) != 0)
         fail("standard output cannot be written");
     return EXIT_SUCCESS;

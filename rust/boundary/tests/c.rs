@@ -104,6 +104,7 @@ fn mistakes_do_not_compile() {
     let mistakes = [
         ("mtr_wake(&s, 5); return 0;", "unused"),
         ("mtr_run r; mtr_dispatch(&s, &r); return 0;", "unused"),
+        ("mtr_change(&s, 5, 700); return 0;", "unused"),
         ("mtr_sound(&s); return 0;", "unused"),
         ("mtr_answer a = mtr_dispatch(s); return a == 0;", ""),
         ("mtr_answer a = mtr_wake(s, 5); return a == 0;", ""),
@@ -152,7 +153,7 @@ fn stack() {
             compile.arg(archive()).args(["-Wl,-z,now", "-o", "stack"]);
             assert_eq!(printed(compile.current_dir(&folder)), "");
             let told = printed(&mut Command::new(folder.join("stack")));
-            assert_eq!(told.lines().count(), 16, "{told}");
+            assert_eq!(told.lines().count(), 17, "{told}");
             for line in told.lines() {
                 let (name, taken) = line.split_once(' ').unwrap();
                 let taken: usize = taken.parse().unwrap();

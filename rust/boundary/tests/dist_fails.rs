@@ -136,7 +136,7 @@ fn an_earlier_folder_stays() {
 #[test]
 fn the_manifest() {
     let repository = Repository::whole("dist-manifest");
-    let package = "[package]\nname = \"mtr\"\nversion = \"2.0.0\"\n\n";
+    let package = "[package]\nname = \"mtr\"\nversion = \"1.2.3\"\n\n";
     let tests = "[dev-dependencies]\nmodel = { path = \"../model\" }\n\n[[test]]\nname = \"a\"\n\n";
     let library = "[lib]\ndoctest = false\n";
     let manifest = repository.root.join("rust/mtr/Cargo.toml");

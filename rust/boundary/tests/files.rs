@@ -215,7 +215,7 @@ fn the_archive_has_the_functions() {
         .collect();
     present.sort_unstable();
     declared.sort_unstable();
-    assert_eq!(declared.len(), 17);
+    assert_eq!(declared.len(), 18);
     assert_eq!(present, declared);
     needed.sort_unstable();
     let libc = ["memcmp", "memcpy", "memmove", "memset"];

@@ -67,6 +67,7 @@ static void calls(void)
 {
     const mtr_scheduler zeros = state;
     CHANGED(MTR_REFUSED_UNSOUND, wake, 5);
+    CHANGED(MTR_REFUSED_UNSOUND, change, 5, 1);
     HOLD(!mtr_sound(&state));
     HOLD(mtr_start(&state, 0, 20000, 0) == MTR_REFUSED_SETTINGS && same(&state, &zeros));
     HOLD(mtr_start(&state, MTR_DEFAULT_THOUSANDTH, MTR_DEFAULT_INTERVAL, MTR_DEFAULT_OVERRUN) == MTR_ACCEPTED);
@@ -148,6 +149,38 @@ static void overruns(void)
     HOLD(state.threads[5].allotment < 0);
 }
 
+/* A reservation that changes: the place is kept, the allotment cut to the new quantum or kept, and the lag begins again at 0. */
+static void changes(void)
+{
+    HOLD(mtr_start(&state, 100, 20000, 0) == MTR_ACCEPTED);
+    CHANGED(MTR_ACCEPTED, admit, 5, 0, 500);
+    CHANGED(MTR_ACCEPTED, admit, 7, 0, 100);
+    CHANGED(MTR_REFUSED_NO_THREAD, change, 6, 0);
+    CHANGED(MTR_REFUSED_NO_THREAD, change, MTR_THREADS, 500);
+    CHANGED(MTR_REFUSED_AMOUNT, change, 5, 0);
+    CHANGED(MTR_REFUSED_AMOUNT, change, 5, MTR_WHOLE + 1);
+    CHANGED(MTR_REFUSED_NO_ROOM, change, 5, 901);
+    /* Cut to 32 bits this would be thread 5, and to 16 bits 500. */
+    CHANGED(MTR_REFUSED_NO_THREAD, change, (UINT64_C(1) << 32) + 5, 500);
+    CHANGED(MTR_REFUSED_AMOUNT, change, 5, (UINT64_C(1) << 16) + 500);
+    dispatch(MTR_ACCEPTED, run_of(5, 20000, 0));
+    CHANGED(MTR_REFUSED_THREAD_RUNNING, change, 5, 0);
+    CHANGED(MTR_ACCEPTED, change, 7, 200);
+    CHANGED(MTR_ACCEPTED, report, MTR_REASON_TICK, 20000);
+    const mtr_reply reply = mtr_by_value_change(state, 5, 700);
+    HOLD(reply.thread == 0 && reply.slice == 0 && reply.before == 0);
+    int64_t lag = 77;
+    HOLD(mtr_lag(&state, 5, &lag) == MTR_ACCEPTED && lag == -10000000);
+    CHANGED(MTR_ACCEPTED, change, 5, 700);
+    HOLD(mtr_lag(&state, 5, &lag) == MTR_ACCEPTED && lag == 0);
+    HOLD(state.threads[5].allotment == 30000 && state.threads[5].reservation == 700 && state.order[0] == 5);
+    CHANGED(MTR_ACCEPTED, change, 5, 50);
+    HOLD(state.threads[5].allotment == 5000);
+    uint32_t share = 0;
+    HOLD(mtr_share(&state, 5, &share) == MTR_ACCEPTED && share == 1000);
+    dispatch(MTR_ACCEPTED, run_of(5, 5000, 0));
+}
+
 static void blocks(void)
 {
     mtr_records list;
@@ -175,6 +208,15 @@ static void blocks(void)
     list.records[1].overrun = 0x1234;
     HOLD(mtr_write_block(area, sizeof area, 3, &list, 2) == MTR_ACCEPTED && area[40] == 0x34 && area[41] == 0x12);
     HOLD(mtr_read_block(area, sizeof area, 3, &found, &count) == MTR_ACCEPTED && memcmp(&found, &list, sizeof list) == 0);
+    /* A change has a thread and a reservation, and no group. */
+    memset(&list, 0, sizeof list);
+    list.records[0].kind = MTR_KIND_CHANGE;
+    list.records[0].subject = 5;
+    list.records[0].amount = 700;
+    HOLD(mtr_write_block(area, sizeof area, 3, &list, 1) == MTR_ACCEPTED);
+    HOLD(mtr_read_block(area, sizeof area, 3, &found, &count) == MTR_ACCEPTED && memcmp(&found, &list, sizeof list) == 0);
+    list.records[0].group = 1;
+    HOLD(mtr_write_block(area, sizeof area, 3, &list, 1) == MTR_REFUSED_FORM);
 }
 
 int main(void)
@@ -182,6 +224,7 @@ int main(void)
     calls();
     figures();
     overruns();
+    changes();
     blocks();
     HOLD(mtr_version() == MTR_VERSION);
     for (uint32_t answer = 0; answer <= 21; answer++)

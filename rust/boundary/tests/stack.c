@@ -29,6 +29,7 @@ static void f_remove(void) { answer = mtr_remove(&state, 9); }
 static void f_wake(void) { answer = mtr_wake(&state, 5); }
 static void f_dispatch(void) { answer = mtr_dispatch(&state, &run); }
 static void f_report(void) { answer = mtr_report(&state, MTR_REASON_BLOCK, 5); }
+static void f_change(void) { answer = mtr_change(&state, 9, 7); }
 static void f_sound(void) { answer = !mtr_sound(&state); }
 static void f_priority(void) { answer = mtr_priority(5, &number); }
 static void f_subtree(void) { answer = mtr_subtree(&state, 0, &number); }
@@ -69,6 +70,7 @@ int main(void)
         { "dispatch", f_dispatch },
         { "report", f_report },
         { "wake", f_wake },
+        { "change", f_change },
         { "remove", f_remove },
         { "sound", f_sound },
         { "priority", f_priority },

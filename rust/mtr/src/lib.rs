@@ -40,10 +40,12 @@ pub mod numbers;
 pub mod raw;
 mod refusal;
 mod scheduler;
+mod values;
 
 pub use blocks::Event;
 pub use refusal::Refusal;
-pub use scheduler::{reservation_of, Dispatch, Entry, Reason, Scheduler, Settings, ThreadState};
+pub use scheduler::{reservation_of, Scheduler};
+pub use values::{Dispatch, Entry, Reason, Settings, ThreadState};
 
 /// The version of the library that is linked: 10000 times the major, 100 times
 /// the minor, and the patch. It is that of this crate, [`raw::VERSION`].

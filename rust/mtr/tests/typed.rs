@@ -35,6 +35,13 @@ fn admit(thread: u8, group: u8, reservation: u16) -> Event {
     }
 }
 
+fn change(thread: u8, reservation: u16) -> Event {
+    Event::Change {
+        thread,
+        reservation,
+    }
+}
+
 /// A scheduler with threads of these numbers and reservations in group 0.
 fn with(threads: &[(u8, u16)]) -> Scheduler {
     let mut s = Scheduler::default();
@@ -319,6 +326,156 @@ fn punctual() {
     assert_eq!(allotment(&s, 5), 1000);
 }
 
+/// What a change is refused with, the first that applies.
+#[test]
+fn changes_refused() {
+    let mut s = with(&[(5, 500), (7, 100)]);
+    for thread in [6, 63, 64, 255] {
+        refused(&mut s, Refusal::NoThread, |s| s.change(thread, 0));
+    }
+    for reservation in [0, 1001, u16::MAX] {
+        refused(&mut s, Refusal::Amount, |s| s.change(5, reservation));
+        refused(&mut s, Refusal::Amount, |s| s.call(change(5, reservation)));
+    }
+    // 400 are free, and its own.
+    refused(&mut s, Refusal::NoRoom, |s| s.change(5, 901));
+    refused(&mut s, Refusal::NoRoom, |s| s.change(7, 501));
+
+    // The running thread is refused whatever it is to have; the other is not.
+    assert_eq!(s.dispatch(), Ok(run(5, 20_000, 0)));
+    for reservation in [0, 1, 500, 901, 1001] {
+        refused(&mut s, Refusal::ThreadRunning, |s| s.change(5, reservation));
+    }
+    assert_eq!(s.change(7, 500), Ok(()));
+    s.report(Reason::Exit, 20_000).unwrap();
+    refused(&mut s, Refusal::NoThread, |s| s.change(5, 500));
+    assert_eq!(s.call(change(7, 1000)), Ok(None));
+    assert_eq!(s.subtree_total(0), Ok(1000));
+
+    // No bit of an argument is lost.
+    let state = *s.as_raw();
+    for (number, reservation, answer) in [
+        (7, 1000, raw::ACCEPTED),
+        (7 + (1 << 32), 1000, raw::REFUSED_NO_THREAD),
+        (7 + (1 << 8), 1000, raw::REFUSED_NO_THREAD),
+        (7, 1000 + (1 << 16), raw::REFUSED_AMOUNT),
+        (7, 1000 + (1 << 32), raw::REFUSED_AMOUNT),
+        (u64::MAX, u64::MAX, raw::REFUSED_NO_THREAD),
+    ] {
+        let reply = numbers::change(state, number, reservation);
+        assert_eq!(reply.answer, answer, "{number} {reservation}");
+        assert_eq!((reply.thread, reply.slice, reply.before), (0, 0, 0));
+    }
+}
+
+/// Room is that of the thread's own group, in which the ceilings of its children count whole.
+#[test]
+fn changes_in_a_group() {
+    let mut s = Scheduler::default();
+    s.open(1, 0, 300).unwrap();
+    s.open(2, 1, 100).unwrap();
+    s.admit(8, 1, 150).unwrap();
+    s.admit(9, 1, 50).unwrap();
+    s.admit(10, 2, 1).unwrap();
+    refused(&mut s, Refusal::NoRoom, |s| s.change(8, 151));
+    s.change(8, 150).unwrap();
+    s.change(9, 1).unwrap();
+    refused(&mut s, Refusal::NoRoom, |s| s.change(8, 200));
+    s.change(8, 199).unwrap();
+    refused(&mut s, Refusal::NoRoom, |s| s.change(9, 2));
+    s.change(10, 100).unwrap();
+    refused(&mut s, Refusal::NoRoom, |s| s.change(10, 101));
+    assert_eq!(s.subtree_total(1), Ok(300));
+    assert_eq!(s.subtree_total(2), Ok(100));
+    // What is lowered is free for others of the group.
+    s.change(8, 99).unwrap();
+    refused(&mut s, Refusal::NoRoom, |s| s.admit(11, 1, 101));
+    s.admit(11, 1, 100).unwrap();
+    assert!(s.is_sound());
+}
+
+/// The place is kept; the allotment is cut to the new quantum and never raised.
+#[test]
+fn changes_of_the_allotment() {
+    let mut s = with(&[(1, 500), (2, 100), (3, 100)]);
+    s.dispatch().unwrap();
+    s.report(Reason::Tick, 15_000).unwrap();
+    assert_eq!(allotment(&s, 1), 35_000);
+    // The quantum of 350 is what is left, and that of 349 is less.
+    for (reservation, left) in [
+        (500, 35_000),
+        (800, 35_000),
+        (350, 35_000),
+        (349, 34_900),
+        (500, 34_900),
+        (150, 15_000),
+        (700, 15_000),
+    ] {
+        s.change(1, reservation).unwrap();
+        assert_eq!(allotment(&s, 1), left, "{reservation}");
+        assert_eq!(s.list(), [1, 2, 3]);
+    }
+    // More from the next turn on.
+    assert_eq!(s.dispatch(), Ok(run(1, 15_000, 0)));
+    s.report(Reason::Tick, 15_000).unwrap();
+    assert_eq!((s.list(), allotment(&s, 1)), (&[2, 3, 1][..], 70_000));
+    s.change(2, 200).unwrap();
+    assert_eq!(s.dispatch(), Ok(run(2, 10_000, 0)));
+    s.report(Reason::Yield, 1).unwrap();
+    assert_eq!((s.list(), allotment(&s, 2)), (&[3, 1, 2][..], 20_000));
+
+    // A debt is not forgiven.
+    let mut s = late();
+    s.dispatch().unwrap();
+    s.report(Reason::Tick, 109).unwrap();
+    for (reservation, left) in [(20, 91), (10, 91), (9, 90), (1, 10), (1000, 10)] {
+        s.change(5, reservation).unwrap();
+        assert_eq!(allotment(&s, 5), left, "{reservation}");
+    }
+    assert_eq!(s.dispatch(), Ok(run(5, 10, 0)));
+    assert!(s.is_sound());
+}
+
+/// The lag begins again at 0, also where the amount is the same; the share goes on.
+#[test]
+fn changes_of_the_lag() {
+    let mut s = with(&[(5, 500), (7, 100)]);
+    s.dispatch().unwrap();
+    s.report(Reason::Tick, 20_000).unwrap();
+    assert_eq!((s.lag(5), s.lag(7)), (Ok(-10_000_000), Ok(2_000_000)));
+    s.change(7, 200).unwrap();
+    assert_eq!((s.lag(5), s.lag(7)), (Ok(-10_000_000), Ok(0)));
+    s.change(5, 500).unwrap();
+    assert_eq!((s.lag(5), s.lag(7)), (Ok(0), Ok(0)));
+    assert_eq!((s.share(5), s.share(7)), (Ok(1000), Ok(0)));
+    s.dispatch().unwrap();
+    s.report(Reason::Tick, 10_000).unwrap();
+    assert_eq!((s.lag(5), s.lag(7)), (Ok(-5_000_000), Ok(2_000_000)));
+    s.dispatch().unwrap();
+    s.report(Reason::Tick, 20_000).unwrap();
+    assert_eq!(s.dispatch(), Ok(run(7, 10_000, 0)));
+    s.report(Reason::Tick, 10_000).unwrap();
+    assert_eq!((s.share(5), s.share(7)), (Ok(833), Ok(166)));
+    assert_eq!((s.meter(), s.lag(7)), (60_000, Ok(-2_000_000)));
+}
+
+/// A blocked thread stays blocked, in its place and with its allotment.
+#[test]
+fn changes_of_a_blocked_thread() {
+    let mut s = with(&[(5, 500), (7, 100)]);
+    s.dispatch().unwrap();
+    s.report(Reason::Block, 12_000).unwrap();
+    s.change(5, 700).unwrap();
+    assert_eq!((s.lag(5), allotment(&s, 5)), (Ok(0), 38_000));
+    assert_eq!(s.dispatch(), Ok(run(7, 10_000, 1)));
+    s.change(5, 300).unwrap();
+    s.wake(5).unwrap();
+    s.report(Reason::Tick, 10_000).unwrap();
+    // Its lag counts from the wake on.
+    assert_eq!((s.lag(5), allotment(&s, 5)), (Ok(3_000_000), 30_000));
+    assert_eq!(s.dispatch(), Ok(run(5, 20_000, 0)));
+}
+
 #[test]
 fn groups() {
     let mut s = Scheduler::default();
@@ -444,6 +601,7 @@ fn unsound_states_are_refused() {
     refused(&mut s, Refusal::Unsound, |s| s.wake(1));
     refused(&mut s, Refusal::Unsound, |s| s.dispatch());
     refused(&mut s, Refusal::Unsound, |s| s.report(Reason::Tick, 0));
+    refused(&mut s, Refusal::Unsound, |s| s.change(1, 1));
     assert_eq!(s.subtree_total(0), Err(Refusal::Unsound));
     assert_eq!(s.lag(1), Err(Refusal::Unsound));
     assert_eq!(s.share(1), Err(Refusal::Unsound));
@@ -468,7 +626,7 @@ fn priorities() {
 }
 
 /// One event of each kind, with edge values.
-const KINDS: [Event; 8] = [
+const KINDS: [Event; 9] = [
     Event::Open {
         group: 255,
         parent: 254,
@@ -492,6 +650,10 @@ const KINDS: [Event; 8] = [
         interval: u32::MAX - 1,
         overrun: 65_532,
     }),
+    Event::Change {
+        thread: 247,
+        reservation: 65_531,
+    },
 ];
 
 #[test]
@@ -542,6 +704,28 @@ fn records() {
         assert_eq!(record.kind as usize, i + 1);
         assert_eq!(Event::try_from(record), Ok(event));
     }
+    let wanted = raw::Record {
+        kind: raw::KIND_CHANGE,
+        subject: 247,
+        amount: 65_531,
+        ..raw::Record::default()
+    };
+    assert_eq!((raw::Record::from(KINDS[8]), raw::KIND_CHANGE), (wanted, 9));
+    for record in [
+        raw::Record { group: 1, ..wanted },
+        raw::Record {
+            reason: 1,
+            ..wanted
+        },
+        raw::Record {
+            overrun: 1,
+            ..wanted
+        },
+        raw::Record { ticks: 1, ..wanted },
+        raw::Record { kind: 10, ..wanted },
+    ] {
+        assert_eq!(Event::try_from(record), Err(Refusal::Form), "{record:?}");
+    }
     let mut counts = [0; 2];
     for kind in 0..=255 {
         for fields in 0..64u8 {
@@ -564,8 +748,8 @@ fn records() {
             counts[(answer == 0) as usize] += 1;
         }
     }
-    // Kinds use 3, 1, 3, 1, 1, 0, 2 and 3 fields.
-    assert_eq!(counts[1], 8 + 2 + 8 + 2 + 2 + 1 + 4 + 8);
+    // Kinds use 3, 1, 3, 1, 1, 0, 2, 3 and 2 fields.
+    assert_eq!(counts[1], 8 + 2 + 8 + 2 + 2 + 1 + 4 + 8 + 4);
     assert_eq!(counts[0] + counts[1], 256 * 64);
 }
 
@@ -623,6 +807,9 @@ fn journal_and_replay() {
         }
         blocked = (reason == Reason::Block).then_some(thread);
         assert_eq!(host.call(admit(9, 0, 1000)), Err(Refusal::NoRoom));
+        // The thread that ran, blocked or not, has more in one round and less in another.
+        let reservation = 100 + 25 * (round % 3) as u16;
+        assert_eq!(host.call(change(thread, reservation)), Ok(None));
     }
     assert!(host.journal.len() > 10 && !host.rest.is_empty());
 

@@ -56,12 +56,12 @@ kept p s n t l a j b =
     (λ e _. subst (λ (u : Thread). T (p u)) (sym (thread-other s n t j (eqb-false j n e))) b)
     refl
 
-pub admitted-kept : (s : Scheduler) (n : ℕ) (t : Thread) → n < length (s .threads) → T (isAdmitted t) → (j : ℕ) → T (admittedAt s j)
+admitted-kept : (s : Scheduler) (n : ℕ) (t : Thread) → n < length (s .threads) → T (isAdmitted t) → (j : ℕ) → T (admittedAt s j)
     → T (admittedAt (withThread s n t) j)
 unfolding admittedAt
 admitted-kept = kept (λ t. isAdmitted t)
 
-pub reserved-kept : (s : Scheduler) (n : ℕ) (t : Thread) → n < length (s .threads) → T (isReserved t) → (j : ℕ) → T (reservedAt s j)
+reserved-kept : (s : Scheduler) (n : ℕ) (t : Thread) → n < length (s .threads) → T (isReserved t) → (j : ℕ) → T (reservedAt s j)
     → T (reservedAt (withThread s n t) j)
 unfolding reservedAt
 reserved-kept = kept (λ t. isReserved t)
@@ -71,21 +71,23 @@ runnable-kept : (s : Scheduler) (n : ℕ) (t : Thread) → n < length (s .thread
 unfolding runnableAt
 runnable-kept = kept (λ t. isRunnable t)
 
-pub listed-kept : (p q : ℕ → Bool) (l : List ℕ) → ((j : ℕ) → T (p j) → T (q j)) → T (everyOf (λ n. ltb n 64 && p n) l)
+listed-kept : (p q : ℕ → Bool) (l : List ℕ) → ((j : ℕ) → T (p j) → T (q j)) → T (everyOf (λ n. ltb n 64 && p n) l)
     → T (everyOf (λ n. ltb n 64 && q n) l)
 listed-kept p q l f t =
     everyOf-map (λ n. ltb n 64 && p n) (λ n. ltb n 64 && q n) l
     (λ j _ u. both (ltb j 64) (q j) (and-l (ltb j 64) (p j) u) (f j (and-r (ltb j 64) (p j) u))) t
 
-pub wake-facts : (s : Scheduler) → Facts s → (n : ℕ) → n < 64 → T (admittedAt s n) → Facts (effect (wake n) s)
-unfolding effect withThread listed wokenThread reservedAt
-wake-facts s k n small a =
-    let t = wokenThread s (threadAt s n) in
-    let inside : n < length (s .threads) = omega (arith, k .threads64) in
-    let res = admitted-reserved s n a in
-    let q = k .thread n res in
-    let adm : T (isAdmitted t) = tt in
-    changed-facts s k n small t (withThread s n t) (record {
+-- A reserved thread is replaced by one that is in order; list and meter stay.
+pub entry-facts : (s : Scheduler) → Facts s → (n : ℕ) → T (reservedAt s n) → (t : Thread) → T (isReserved t) → t .status ≤ 2
+    → T (openAt s (t .group)) → Fit t (s .settings .thousandth) → Account t (s .meter)
+    → ((g : ℕ) → T (openAt s g) → load s g + shareOf t g ≤ (groupAt s g) .ceiling + shareOf (threadAt s n) g)
+    → ((s .running ≡ 64 → ⊥) → T (runnableAt (withThread s n t) (s .running)))
+    → Facts (withThread s n t)
+unfolding withThread listed
+entry-facts s k n own t res status group fit account fits-in run =
+    let q = k .thread n own in
+    let inside : n < length (s .threads) = omega (arith, q .small, k .threads64) in
+    changed-facts s k n (q .small) t (withThread s n t) (record {
       threads = refl;
       groups = refl;
       settings = refl;
@@ -93,24 +95,34 @@ wake-facts s k n small a =
       meter-most = k .meter;
       order64 = k .order64;
       count64 = k .count64;
-      members = listed-kept (reservedAt s) (reservedAt (withThread s n t)) (listed s) (reserved-kept s n t inside adm) (k .members);
+      members = listed-kept (reservedAt s) (reservedAt (withThread s n t)) (listed s) (reserved-kept s n t inside res) (k .members);
       once = k .once;
       others = λ j ne m. m;
       own-list = λ _. q .in-list;
-      own-group = λ _. q .in-group;
-      own-status = omega arith;
-      own-fit = λ _. fit-woken s (threadAt s n) (q .fit);
-      own-account = λ _. account-woken s (threadAt s n) (k .account n a);
-      room = λ g o. rw (is (isReserved (threadAt s n)) res) (omega (arith, carries s k g o));
+      own-group = λ _. group;
+      own-status = status;
+      own-fit = λ _. fit;
+      own-account = λ _. account;
+      room = fits-in;
       run = λ ne.
           let r = k .run ne in
           record {
             small = r .small;
-            admitted = admitted-kept s n t inside adm (s .running) (r .admitted);
-            runnable = runnable-kept s n t inside tt (s .running) (r .runnable);
+            admitted = admitted-kept s n t inside res (s .running) (r .admitted);
+            runnable = run ne;
             early = r .early;
           };
     })
+
+pub wake-facts : (s : Scheduler) → Facts s → (n : ℕ) → T (admittedAt s n) → Facts (effect (wake n) s)
+unfolding effect wokenThread reservedAt
+wake-facts s k n a =
+    let t = wokenThread s (threadAt s n) in
+    let own = admitted-reserved s n a in
+    let q = k .thread n own in
+    entry-facts s k n own t tt (omega arith) (q .in-group) (fit-woken s (threadAt s n) (q .fit)) (account-woken s (threadAt s n) (k .account n a))
+    (λ g o. rw (is (isReserved (threadAt s n)) own) (omega (arith, carries s k g o)))
+    (λ ne. runnable-kept s n t (omega (arith, q .small, k .threads64)) tt (s .running) ((k .run ne) .runnable))
 
 -- Report: the running thread is charged.
 

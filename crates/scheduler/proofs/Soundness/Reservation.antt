@@ -1,11 +1,10 @@
 -- A change of a reservation keeps a state sound: the list stays, the allotment is cut into the new quantum, and the load of the thread's
 -- group changes by the difference of the two reservations, which its room allows.
-use Prim.Native.Nat.{ℕ, _+_, _-_, min, _≤_, _<_}
+use Prim.Native.Nat.{ℕ, _+_, _-_, min, _≤_}
 use mathlib.Core.Path.{_≡_, refl, sym, subst}
-use mathlib.Core.Bool.{cond, _&&_}
+use mathlib.Core.Bool.{cond}
 use native.Mathlib.Omega.{arith}
 use native.Mathlib.Nat.{le-refl, mul-pos, min-le-right}
-use lib.ListN.{length}
 use lib.Dec.{T, eqb}
 use borrow.Author.Tests.{eqb-true}
 use Rattle.base.proofs.Bools.{by, is}
@@ -13,15 +12,15 @@ use Rattle.quota.specs.Quota.{natOf}
 use Rattle.quota.proofs.Debt.{cut-nat}
 use Rattle.scheduler.specs.declared.Thread.{Thread}
 use Rattle.scheduler.specs.declared.Scheduler.{Scheduler}
-use Rattle.scheduler.specs.State.{threadAt, groupAt, admittedAt, reservedAt, runnableAt, reservationAt, quantum, openAt, listed}
-use Rattle.scheduler.specs.State.{withThread, isReserved, isRunnable}
+use Rattle.scheduler.specs.State.{threadAt, groupAt, reservedAt, runnableAt, reservationAt, quantum, openAt, isReserved}
+use Rattle.scheduler.specs.State.{isRunnable}
 use Rattle.scheduler.specs.Sound.{load}
 use Rattle.scheduler.specs.Refusals.{change, free, roomFor}
 use Rattle.scheduler.specs.Effects.{changedThread, effect}
 use Rattle.scheduler.proofs.Facts.{Fit, Account, Facts, reserved-admitted, carries, settings-facts, thread-other}
 use Rattle.scheduler.proofs.Passed.{ChangeOk}
-use Rattle.scheduler.proofs.Soundness.Change.{changed-facts, shareOf}
-use Rattle.scheduler.proofs.Soundness.Calls.{admitted-kept, reserved-kept, listed-kept}
+use Rattle.scheduler.proofs.Soundness.Change.{shareOf}
+use Rattle.scheduler.proofs.Soundness.Calls.{entry-facts}
 
 least : (a b : ℕ) → 1 ≤ a → 1 ≤ b → 1 ≤ min a b
 least a b h l = omega arith
@@ -63,37 +62,13 @@ change-room s k n d ok j o =
     refl)
 
 pub change-facts : (s : Scheduler) → Facts s → (n d : ℕ) → ChangeOk s n d → Facts (effect (change n d) s)
-unfolding effect withThread listed changedThread admittedAt reservedAt runnableAt
+unfolding effect changedThread reservedAt runnableAt
 change-facts s k n d ok =
     let t = changedThread s d (threadAt s n) in
-    let a = reserved-admitted s n (ok .reserved) in
     let q = k .thread n (ok .reserved) in
-    let inside : n < length (s .threads) = omega (arith, q .small, k .threads64) in
-    changed-facts s k n (q .small) t (withThread s n t) (record {
-      threads = refl;
-      groups = refl;
-      settings = refl;
-      meter = le-refl (s .meter);
-      meter-most = k .meter;
-      order64 = k .order64;
-      count64 = k .count64;
-      members =
-          listed-kept (reservedAt s) (reservedAt (withThread s n t)) (listed s) (reserved-kept s n t inside (ok .reserved)) (k .members);
-      once = k .once;
-      others = λ j ne m. m;
-      own-list = λ _. q .in-list;
-      own-group = λ _. q .in-group;
-      own-status = k .status n (q .small);
-      own-fit = λ _. fit-changed s d (threadAt s n) (ok .positive) (ok .at-most) ((settings-facts (s .settings) (k .settings)) .0) (q .fit);
-      own-account = λ _. account-changed s d (threadAt s n) (k .account n a);
-      room = change-room s k n d ok;
-      run = λ ne.
-          let r = k .run ne in
-          record {
-            small = r .small;
-            admitted = admitted-kept s n t inside a (s .running) (r .admitted);
-            runnable =
-                subst (λ (u : Thread). T (isRunnable u)) (sym (thread-other s n t (s .running) (λ z. ok .waits (sym z)))) (r .runnable);
-            early = r .early;
-          };
-    })
+    let m = settings-facts (s .settings) (k .settings) in
+    entry-facts s k n (ok .reserved) t (ok .reserved) (k .status n (q .small)) (q .in-group)
+    (fit-changed s d (threadAt s n) (ok .positive) (ok .at-most) (m .0) (q .fit))
+    (account-changed s d (threadAt s n) (k .account n (reserved-admitted s n (ok .reserved))))
+    (change-room s k n d ok)
+    (λ ne. subst (λ (u : Thread). T (isRunnable u)) (sym (thread-other s n t (s .running) (λ z. ok .waits (sym z)))) ((k .run ne) .runnable))

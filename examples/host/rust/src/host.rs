@@ -13,6 +13,15 @@ pub struct Debt {
     pub left: i32,
 }
 
+/// A stretch in which readout's reservation is the same: the ticks of all
+/// threads in it, and readout's own.
+#[derive(Clone, Copy, Default)]
+pub struct Stretch {
+    pub reservation: u16,
+    pub all: u64,
+    pub own: u64,
+}
+
 /// Makes calls, journals each one and prints its answer.
 pub struct Host {
     scheduler: Scheduler,
@@ -81,8 +90,10 @@ impl Host {
         Ok(())
     }
 
-    /// Writes the last block and prints the roster and the debts by thread.
-    pub fn finish(mut self, debts: &[Debt]) -> io::Result<()> {
+    /// Writes the last block and prints the roster, the debts by thread, and for
+    /// each stretch readout's reservation, the ticks of all threads and readout's
+    /// thousandths of them.
+    pub fn finish(mut self, debts: &[Debt], stretches: &[Stretch]) -> io::Result<()> {
         if !self.events.is_empty() {
             self.flush_block()?;
         }
@@ -106,6 +117,11 @@ impl Host {
             if debt.owed > 0 {
                 writeln!(self.out, "debt {thread} {} {}", debt.owed, debt.left)?;
             }
+        }
+        for stretch in stretches {
+            let (reservation, all) = (stretch.reservation, stretch.all);
+            let share = (1000 * stretch.own).checked_div(all).unwrap_or(0);
+            writeln!(self.out, "readout {reservation} {all} {share}")?;
         }
         Ok(())
     }

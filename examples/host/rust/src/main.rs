@@ -1,7 +1,8 @@
-//! A controller's main loop on a virtual clock, in Rust: readout, pumps, the
-//! lab's viewer and an exporter that waits for a server whose replies come
-//! sooner or later, under a timer that fires up to 50 ticks late. Every call of
-//! the scheduler is journalled into event blocks.
+//! A controller's main loop on a virtual clock, in Rust: readout, pumps, an
+//! archive, the lab's viewer and an exporter that waits for a server whose
+//! replies come sooner or later, under a timer that fires up to 50 ticks late.
+//! For a while a method change needs more readout. Every call of the scheduler
+//! is journalled into event blocks.
 //!
 //! ```text
 //! cargo run --release -p controller -- SEED JOURNAL [MILLISECONDS]
@@ -9,9 +10,9 @@
 //!
 //! Standard output has a line for each call, as `mtrrun` prints it for the
 //! call's record (number, answer, thread, slice, threads before it), and at the
-//! end the roster and each thread's largest debt. `target/bin/mtrrun < JOURNAL`
-//! prints the same lines but for roster and debts. `examples/host/c` is the same
-//! host in C.
+//! end the roster, each thread's largest debt and readout's share under each
+//! reservation. `target/bin/mtrrun < JOURNAL` prints the same lines but for
+//! these tables. `examples/host/c` is the same host in C.
 
 #![forbid(unsafe_code)]
 
@@ -50,5 +51,5 @@ fn run() -> Result<(), Box<dyn Error>> {
     let mut host = Host::new(File::create(journal)?);
     let mut world = World::new(seed);
     world.simulate(&mut host, 1000 * milliseconds)?;
-    Ok(host.finish(world.debts())?)
+    Ok(host.finish(world.debts(), world.stretches())?)
 }

@@ -2,17 +2,22 @@
 
 use std::io;
 
-use mtr::{Dispatch, Event, Reason, Settings};
+use mtr::{Dispatch, Event, Reason, Refusal, Settings};
 
-use crate::host::{Debt, Host};
+use crate::host::{Debt, Host, Stretch};
 
 const READOUT: u8 = 0;
 const VIEWER: u8 = 2;
 const EXPORTER: u8 = 3;
+const ARCHIVE: u8 = 5;
 
 /// The lab's side of the controller, in a group of its own.
 const LAB: u8 = 1;
-const LAB_CEILING: u16 = 300;
+const LAB_CEILING: u16 = 150;
+
+/// Readout during a method change, and the archive, which makes room for it.
+const RAISED: u16 = 700;
+const LOWERED: u16 = 50;
 
 /// The most ticks that the timer fires after the end of a slice: the overrun
 /// limit that the scheduler is started with.
@@ -30,7 +35,7 @@ struct Task {
     late: u32,
 }
 
-const TASKS: [Task; 5] = [
+const TASKS: [Task; 6] = [
     // Readout.
     Task {
         group: 0,
@@ -52,7 +57,7 @@ const TASKS: [Task; 5] = [
     // The viewer.
     Task {
         group: LAB,
-        reservation: 100,
+        reservation: 50,
         burst: Some((3_000, 8_000)),
         reason: Reason::Yield,
         pause: (0, 0),
@@ -76,6 +81,25 @@ const TASKS: [Task; 5] = [
         pause: (0, 0),
         late: 1,
     },
+    // The archive.
+    Task {
+        group: 0,
+        reservation: 200,
+        burst: None,
+        reason: Reason::Tick,
+        pause: (0, 0),
+        late: 1,
+    },
+];
+
+/// A step of the run, between a report and the next dispatch: nothing runs.
+type Step = fn(&mut World, &mut Host) -> io::Result<()>;
+
+/// The steps at each quarter of the run.
+const STEPS: [Step; 3] = [
+    World::raise_readout,
+    World::reconnect,
+    World::restore_readout,
 ];
 
 pub struct World {
@@ -87,6 +111,10 @@ pub struct World {
     due: [Option<u64>; TASKS.len()],
     /// The largest debt of each task.
     debts: [Debt; TASKS.len()],
+    /// How many steps of the run are done.
+    steps: usize,
+    /// Readout before, in and after its method change.
+    stretches: Vec<Stretch>,
 }
 
 impl World {
@@ -97,6 +125,8 @@ impl World {
             left: [None; TASKS.len()],
             due: [None; TASKS.len()],
             debts: [Debt::default(); TASKS.len()],
+            steps: 0,
+            stretches: vec![stretch(reservation_of(READOUT))],
         }
     }
 
@@ -104,15 +134,18 @@ impl World {
         &self.debts
     }
 
+    pub fn stretches(&self) -> &[Stretch] {
+        &self.stretches
+    }
+
     /// The loop: wake who is due, dispatch, run, report.
     pub fn simulate(&mut self, host: &mut Host, end: u64) -> io::Result<()> {
         self.boot(host)?;
-        let mut connected = false;
         let mut dispatches = 0;
         while self.clock < end {
-            if !connected && self.clock >= end / 2 {
-                self.reconnect(host)?;
-                connected = true;
+            while self.steps < STEPS.len() && self.clock >= (self.steps as u64 + 1) * (end / 4) {
+                STEPS[self.steps](self, host)?;
+                self.steps += 1;
             }
             for thread in 0..TASKS.len() {
                 if self.due[thread].is_some_and(|due| due <= self.clock) {
@@ -200,9 +233,43 @@ impl World {
                 reservation: LAB_CEILING,
             },
             Event::Close { group: LAB },
+            change(64, 1),
+            change(READOUT, 1_001),
         ] {
             let _refused = host.call(event)?;
         }
+        // Too early: the self-test still has its reservation.
+        self.raise_readout(host)
+    }
+
+    /// A method change needs more readout. The archive makes room first; where
+    /// there is still too little, it gets its own back and readout goes on with
+    /// what it has. A running thread can't be changed, so this is done between a
+    /// report and a dispatch.
+    fn raise_readout(&mut self, host: &mut Host) -> io::Result<()> {
+        host.accepted(change(ARCHIVE, LOWERED))?;
+        let answer = host.call(change(READOUT, RAISED))?;
+        if answer == Err(Refusal::NoRoom) {
+            host.accepted(change(ARCHIVE, reservation_of(ARCHIVE)))?;
+            let kept = reservation_of(READOUT);
+            eprintln!("controller: no room for {RAISED}, readout goes on with {kept}");
+            return Ok(());
+        }
+        answer.map_err(io::Error::other)?;
+        self.stretches.push(stretch(RAISED));
+        Ok(())
+    }
+
+    /// After the method change: readout goes back first, so that the archive has
+    /// room.
+    fn restore_readout(&mut self, host: &mut Host) -> io::Result<()> {
+        if self.stretches.len() != 2 {
+            return Ok(());
+        }
+        for thread in [READOUT, ARCHIVE] {
+            host.accepted(change(thread, reservation_of(thread)))?;
+        }
+        self.stretches.push(stretch(reservation_of(READOUT)));
         Ok(())
     }
 
@@ -278,7 +345,7 @@ impl World {
     }
 
     /// Reports all ticks that the running thread used, those beyond its slice
-    /// too, and notes what it owes for them.
+    /// too, and notes them and what it owes for them.
     fn end_run(&mut self, host: &mut Host, n: usize, reason: Reason, used: u32) -> io::Result<()> {
         let owed = used as i32 - host.allotment(n);
         let reason = reason.number();
@@ -286,6 +353,10 @@ impl World {
         if owed > self.debts[n].owed {
             let left = host.allotment(n);
             self.debts[n] = Debt { owed, left };
+        }
+        if let Some(stretch) = self.stretches.last_mut() {
+            stretch.all += u64::from(used);
+            stretch.own += if n == READOUT.into() { used.into() } else { 0 };
         }
         Ok(())
     }
@@ -301,12 +372,32 @@ impl World {
     }
 }
 
+fn change(thread: u8, reservation: u16) -> Event {
+    Event::Change {
+        thread,
+        reservation,
+    }
+}
+
+fn reservation_of(thread: u8) -> u16 {
+    TASKS[thread as usize].reservation
+}
+
+/// A stretch that begins.
+fn stretch(reservation: u16) -> Stretch {
+    Stretch {
+        reservation,
+        ..Stretch::default()
+    }
+}
+
 /// What a confused driver does while a thread runs: all of it is refused.
 fn confuse(host: &mut Host, running: u8, slice: u32) -> io::Result<()> {
     for event in [
         Event::Dispatch,
         Event::Wake { thread: running },
         Event::Remove { thread: running },
+        change(running, 1),
         Event::Report {
             reason: Reason::Exit.number() + 1,
             used: 0,

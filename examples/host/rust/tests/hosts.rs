@@ -54,16 +54,16 @@ fn run(host: &Path, words: &[&str]) -> Output {
     Command::new(host).args(words).output().unwrap()
 }
 
+/// What both hosts say of a method change that comes too early.
+const EARLY: &str = "controller: no room for 700, readout goes on with 500\n";
+
 /// What a host prints and journals.
 fn hosted(host: &Path, name: &str, seed: &str, milliseconds: &str) -> (String, Vec<u8>) {
     let journal = scratch(name);
     let words = [seed, journal.to_str().unwrap(), milliseconds];
     let done = run(host, &words);
-    assert!(
-        done.status.success(),
-        "{}",
-        String::from_utf8_lossy(&done.stderr)
-    );
+    assert_eq!(String::from_utf8_lossy(&done.stderr), EARLY);
+    assert!(done.status.success());
     let printed = String::from_utf8(done.stdout).unwrap();
     (printed, fs::read(journal).unwrap())
 }
@@ -91,14 +91,15 @@ fn events(journal: &[u8]) -> Vec<Event> {
     all
 }
 
-/// A line's five numbers, or a roster line's number, allotment, lag and share, or a debt line's number, debt and allotment.
+/// A line's five numbers, or a roster line's number, allotment, lag and share, or a debt line's number, debt and allotment, or a readout
+/// line's reservation, ticks and share.
 fn numbers(line: &str) -> Vec<i64> {
     let words = line.split(' ');
     words.filter_map(|word| word.parse().ok()).collect()
 }
 
 const READOUT: u8 = 0;
-const F: i64 = 500;
+const ARCHIVE: u8 = 5;
 
 /// The settings that both hosts start with.
 fn settings() -> Settings {
@@ -108,51 +109,92 @@ fn settings() -> Settings {
     }
 }
 
-/// What readout is owed in a journal: f × W − 1000 × S, W and S from its admission on.
-#[derive(Debug, PartialEq, Eq)]
+/// What readout is owed in a stretch of a journal in which its reservation f is the same: f × W − 1000 × S, W and S from the stretch's
+/// beginning on.
+#[derive(Debug, Default)]
 struct Owed {
+    reservation: i64,
     last: i64,
-    /// The most over a stretch of calls, from any one to any later one, f times the others' overruns in it not counted.
+    /// The most over a part of the stretch, from any call to any later one, f times the others' overruns in it not counted.
     most: i64,
+    /// That amount now, and the least so far.
+    levels: [i64; 2],
     /// S and W.
     ticks: [i64; 2],
     /// Overruns of the others, and of readout.
     overruns: [i64; 2],
 }
 
-fn owed(events: &[Event], lines: &[&str]) -> Owed {
+impl Owed {
+    fn of(reservation: u16) -> Owed {
+        let reservation = reservation.into();
+        Owed {
+            reservation,
+            ..Owed::default()
+        }
+    }
+
+    fn charge(&mut self, reads: bool, used: i64, slice: i64) {
+        let f = self.reservation;
+        self.ticks[0] += if reads { used } else { 0 };
+        self.ticks[1] += used;
+        self.overruns[reads as usize] += (used - slice).max(0);
+        self.last = f * self.ticks[1] - 1000 * self.ticks[0];
+        let [level, least] = &mut self.levels;
+        *level = self.last - f * self.overruns[0];
+        self.most = self.most.max(*level - *least);
+        *least = (*least).min(*level);
+    }
+
+    /// Thousandths of the stretch's ticks.
+    fn share(&self) -> i64 {
+        1000 * self.ticks[0] / self.ticks[1]
+    }
+}
+
+/// The stretches of a journal: one from readout's admission on, and one from each change of its reservation.
+fn owed(events: &[Event], lines: &[&str]) -> Vec<Owed> {
     let (mut running, mut slice) = (None, 0);
-    let mut admitted = false;
-    let (mut last, mut least, mut most) = (0, 0, 0);
-    let (mut ticks, mut overruns) = ([0, 0], [0, 0]);
+    let mut stretches: Vec<Owed> = Vec::new();
     for (event, line) in events.iter().zip(lines) {
         let line = numbers(line);
         if line[1] != 0 {
             continue;
         }
         match *event {
-            Event::Admit { thread, .. } => admitted |= thread == READOUT,
+            Event::Admit {
+                thread: READOUT,
+                reservation,
+                ..
+            }
+            | Event::Change {
+                thread: READOUT,
+                reservation,
+            } => stretches.push(Owed::of(reservation)),
             Event::Dispatch => (running, slice) = (Some(line[2]), line[3]),
-            Event::Report { reason, used } if admitted => {
+            Event::Report { reason, used } => {
                 let reads = running == Some(READOUT as i64);
                 assert!(!reads || reason == 0);
-                ticks[0] += if reads { used as i64 } else { 0 };
-                ticks[1] += used as i64;
-                overruns[reads as usize] += (used as i64 - slice).max(0);
-                last = F * ticks[1] - 1000 * ticks[0];
-                let level = last - F * overruns[0];
-                most = most.max(level - least);
-                least = least.min(level);
+                let stretch = stretches.last_mut().unwrap();
+                stretch.charge(reads, used.into(), slice);
             }
             _ => {}
         }
     }
-    Owed {
-        last,
-        most,
-        ticks,
-        overruns,
-    }
+    stretches
+}
+
+/// The changes of a journal with their answers: thread, reservation, answer.
+fn changes(events: &[Event], lines: &[&str]) -> Vec<(u8, u16, i64)> {
+    let rows = events.iter().zip(lines);
+    rows.filter_map(|(event, line)| match *event {
+        Event::Change {
+            thread,
+            reservation,
+        } => Some((thread, reservation, numbers(line)[1])),
+        _ => None,
+    })
+    .collect()
 }
 
 /// The largest debt of each thread in a journal, and the allotment that it left, computed from the slices and the ticks used: every
@@ -175,6 +217,15 @@ fn debts(events: &[Event], lines: &[&str]) -> Vec<Vec<i64>> {
             } => {
                 quantum[thread as usize] = reservation as i64 * m;
                 allotment[thread as usize] = reservation as i64 * m;
+            }
+            // Cut, and never raised.
+            Event::Change {
+                thread,
+                reservation,
+            } => {
+                let n = thread as usize;
+                quantum[n] = reservation as i64 * m;
+                allotment[n] = allotment[n].min(quantum[n]);
             }
             Event::Dispatch if line[2] != 64 => {
                 (n, slice) = (line[2] as usize, line[3]);
@@ -211,7 +262,8 @@ fn compare(seed: &str, milliseconds: &str) {
 
     let at = printed.find("roster").unwrap();
     let (answers, tables) = printed.split_at(at);
-    let (roster, in_debt) = tables.split_at(tables.find("debt").unwrap());
+    let (roster, tables) = tables.split_at(tables.find("debt").unwrap());
+    let (in_debt, stretches) = tables.split_at(tables.find("readout").unwrap());
     assert_eq!(replayed(&rust_name), answers, "{name}");
 
     let (events, lines) = (events(&journal), answers.lines().collect::<Vec<_>>());
@@ -220,11 +272,25 @@ fn compare(seed: &str, milliseconds: &str) {
         let line = numbers(line);
         assert!(line.len() == 5 && line[0] == i as i64);
     }
+    every_call_and_refusal(&events, &lines);
 
-    // Every kind of call is accepted at least once, and every refusal that a host can meet occurs.
-    let mut accepted = [0; 9];
+    // The debts are kept.
+    let in_debt: Vec<Vec<i64>> = in_debt.lines().map(numbers).collect();
+    assert!(in_debt.len() > 1, "{in_debt:?}");
+    assert_eq!(in_debt, debts(&events, &lines));
+
+    readout(
+        &owed(&events, &lines),
+        &roster.lines().map(numbers).collect::<Vec<_>>(),
+        &stretches.lines().map(numbers).collect::<Vec<_>>(),
+    );
+}
+
+/// Every kind of call is accepted at least once, and every refusal that a host can meet occurs.
+fn every_call_and_refusal(events: &[Event], lines: &[&str]) {
+    let mut accepted = [0; 10];
     let mut refusals = [0; 21];
-    for (event, line) in events.iter().zip(&lines) {
+    for (event, line) in events.iter().zip(lines) {
         let answer = numbers(line)[1] as usize;
         refusals[answer] += 1;
         accepted[mtr::raw::Record::from(*event).kind as usize] += (answer == 0) as u32;
@@ -233,25 +299,56 @@ fn compare(seed: &str, milliseconds: &str) {
     let seen: Vec<usize> = (0..21).filter(|&a| refusals[a] > 0).collect();
     assert_eq!(seen, (0..=14).collect::<Vec<_>>());
 
-    // The timer is late for readout and for others, and the debts are kept.
-    let owed = owed(&events, &lines);
-    assert!(owed.overruns.iter().all(|&ticks| ticks > 0), "{owed:?}");
-    let in_debt: Vec<Vec<i64>> = in_debt.lines().map(numbers).collect();
-    assert!(in_debt.len() > 1, "{in_debt:?}");
-    assert_eq!(in_debt, debts(&events, &lines));
+    // Changes: two mistakes, a method change that comes too early and is taken back, one that fits, and its end.
+    let (running, others): (Vec<_>, Vec<_>) =
+        changes(events, lines).into_iter().partition(|c| c.2 == 9);
+    assert!(!running.is_empty());
+    let wanted = [
+        (64, 1, 7),
+        (READOUT, 1001, 4),
+        (ARCHIVE, 50, 0),
+        (READOUT, 700, 5),
+        (ARCHIVE, 200, 0),
+        (ARCHIVE, 50, 0),
+        (READOUT, 700, 0),
+        (READOUT, 500, 0),
+        (ARCHIVE, 200, 0),
+    ];
+    assert_eq!(others, wanted);
+}
 
-    // Readout's bound over every stretch, and its lag and share in the roster.
+/// Readout's bound over every part of each stretch, its shares, and its lag and share in the roster.
+fn readout(owed: &[Owed], roster: &[Vec<i64>], stretches: &[Vec<i64>]) {
     let settings = settings();
     let (m, p) = (settings.thousandth as i64, settings.interval as i64);
-    let bound = 2 * F * (1000 - F) * m + F * p;
-    assert!(0 < owed.most && owed.most <= bound, "{owed:?}");
-    let rows: Vec<Vec<i64>> = roster.lines().map(numbers).collect();
-    assert_eq!(rows.len(), 4);
-    let readout = rows.iter().find(|row| row[0] == READOUT as i64).unwrap();
-    let share = 1000 * owed.ticks[0] / owed.ticks[1];
-    assert_eq!(readout[2..], [owed.last, share]);
-    assert!(share >= F, "{share}");
-    println!("{name}: {} calls, {owed:?} of {bound}", lines.len());
+    for stretch in owed {
+        let f = stretch.reservation;
+        let bound = 2 * f * (1000 - f) * m + f * p;
+        assert!(0 < stretch.most && stretch.most <= bound, "{stretch:?}");
+        // The timer is late for readout and for others.
+        let late = stretch.overruns.iter().all(|&ticks| ticks > 0);
+        assert!(late, "{stretch:?}");
+    }
+    let shown: Vec<Vec<i64>> = owed
+        .iter()
+        .map(|stretch| vec![stretch.reservation, stretch.ticks[1], stretch.share()])
+        .collect();
+    assert_eq!(shown, stretches);
+    let [before, raised, after] = owed else {
+        panic!("{owed:?}");
+    };
+    let reserved = [before, raised, after].map(|stretch| stretch.reservation);
+    assert_eq!(reserved, [500, 700, 500]);
+    let more = raised.share() - before.share().max(after.share());
+    assert!(more >= 100, "{shown:?}");
+
+    assert_eq!(roster.len(), 5);
+    let row = roster.iter().find(|row| row[0] == READOUT as i64).unwrap();
+    let sum = |i: usize| owed.iter().map(|stretch| stretch.ticks[i]).sum::<i64>();
+    let share = 1000 * sum(0) / sum(1);
+    // The lag is that since the last change, the share that since the admission.
+    assert_eq!(row[2..], [after.last, share]);
+    assert!(share >= 500, "{share}");
 }
 
 #[test]
@@ -316,7 +413,8 @@ fn tree() -> BTreeMap<PathBuf, Vec<u8>> {
     files
 }
 
-/// The commands of the page run as they stand there, one after the other, and leave nothing in the tree. What `rt` makes is there.
+/// The commands of the page run as they stand there, one after the other, and leave nothing in the tree. What `rt` makes is there. The
+/// lines that the page shows are printed, in its order.
 #[test]
 fn the_page() {
     let page = fs::read_to_string(root().join("examples/host/README.md")).unwrap();
@@ -345,4 +443,14 @@ fn the_page() {
         panic!("{}", printed.len());
     };
     assert!(c == rust && !replayed.is_empty() && c.starts_with(replayed));
+
+    let shown: Vec<&str> = page
+        .lines()
+        .filter_map(|line| Some(line.strip_prefix("| `")?.split_once('`')?.0))
+        .collect();
+    assert_eq!(shown.len(), 12, "{shown:?}");
+    let mut lines = std::str::from_utf8(c).unwrap().lines();
+    for line in shown {
+        assert!(lines.any(|printed| printed == line), "{line}");
+    }
 }
