@@ -11,7 +11,7 @@ use crate::states::{
 };
 
 /// The calls by their exported names without `mtr_by_value_`.
-pub const CALLS: [&str; 16] = [
+pub const CALLS: [&str; 17] = [
     "start",
     "open",
     "close",
@@ -20,6 +20,7 @@ pub const CALLS: [&str; 16] = [
     "wake",
     "dispatch",
     "report",
+    "change",
     "sound",
     "priority",
     "subtree",
@@ -104,6 +105,7 @@ fn cases(call: &str) -> Vec<Case> {
                         "wake" => wake(n, deep, &mut cases),
                         "dispatch" => dispatch(n, deep, &mut cases),
                         "report" => report(n, deep, &mut cases),
+                        "change" => change(n, deep, &mut cases),
                         "sound" => sound(n, deep, &mut cases),
                         "subtree" => subtree(n, deep, &mut cases),
                         "roster" => roster(n, deep, &mut cases),
@@ -220,6 +222,24 @@ fn report(n: u64, deep: bool, cases: &mut Vec<Case>) {
             let name = format!("{name} of the {place}");
             cases.push(on(s, n, deep, &name, move |s| {
                 numbers::report(s, reason, most).answer
+            }));
+        }
+        if n == 1 {
+            break;
+        }
+    }
+}
+
+/// A change to less cuts the allotment; one to the same amount keeps it.
+fn change(n: u64, deep: bool, cases: &mut Vec<Case>) {
+    if n == 0 {
+        return;
+    }
+    for (place, number) in [("front", 0), ("rear", n - 1)] {
+        for (name, amount) in [("less", reservation(n) - 1), ("the same", reservation(n))] {
+            let name = format!("{name} for the {place}");
+            cases.push(on(threads(n, deep), n, deep, &name, move |s| {
+                numbers::change(s, number, amount).answer
             }));
         }
         if n == 1 {

@@ -86,7 +86,7 @@ pub fn sloped(n: u64, deep: bool, falling: bool) -> Scheduler {
 pub fn records() -> [Record; RECORDS] {
     std::array::from_fn(|i| {
         let i = i as u8;
-        let kind = 1 + i % 8;
+        let kind = 1 + i % 9;
         let uses = fields(kind).unwrap_or_default();
         Record {
             kind,

@@ -134,6 +134,28 @@ fn admit_remove(n: u64) {
     line("admit + remove", &n.to_string(), sides);
 }
 
+/// The last of n threads is given one thousandth less and what it had.
+fn change(n: u64) {
+    let number = n - 1;
+    let amount = reservation(n);
+    let sides = sides(
+        &threads(n, false),
+        move |s| {
+            let reply = numbers::change(*s, number, amount - 1);
+            *s = numbers::change(reply.state, number, amount).state;
+        },
+        move |s| {
+            s.change(number, amount - 1);
+            s.change(number, amount);
+        },
+        move |s| {
+            let (_, next) = by_value::change(*s, number, amount - 1);
+            *s = by_value::change(next, number, amount).1;
+        },
+    );
+    line("change + change back", &n.to_string(), sides);
+}
+
 #[inline(never)]
 fn sound_by_value(s: Scheduler) -> bool {
     s.sound()
@@ -233,6 +255,7 @@ pub fn print() {
         wake,
         dispatch_block_wake,
         admit_remove,
+        change,
         soundness,
     ] {
         for n in [1, 8, 64] {

@@ -53,6 +53,7 @@ fn main() {
         println!("states, {origin}: {sound} sound, {unsound} not");
     }
     println!("{:?}", attack.late);
+    println!("{:?}", attack.changes);
     let spent = begun.elapsed().as_secs_f64();
     println!("idle dispatches {}", attack.idle);
     println!("{} calls in {spent:.1} s, no difference", attack.calls());

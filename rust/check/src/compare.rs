@@ -7,9 +7,10 @@
 #![forbid(unsafe_code)]
 
 use crate::bytes;
+use crate::changes::Changes;
 use crate::late::Late;
 use model::accounts::Entry;
-use model::blocks::Record;
+use model::blocks::{kind, Record};
 use model::calls::{self, Call};
 use model::rule::{self, Group, Reply, Scheduler, Settings, Thread};
 use mtr::numbers;
@@ -126,6 +127,10 @@ pub fn made(state: numbers::Scheduler, call: Call) -> numbers::Reply {
         Call::Wake { number } => numbers::wake(state, number),
         Call::Dispatch => numbers::dispatch(state),
         Call::Report { reason, used } => numbers::report(state, reason, used),
+        Call::Change {
+            number,
+            reservation,
+        } => numbers::change(state, number, reservation),
     }
 }
 
@@ -196,24 +201,29 @@ pub fn sound(s: &Scheduler) -> bool {
     wanted
 }
 
-/// Kinds of calls in the order of their record numbers.
-pub const KINDS: [&str; 7] = [
-    "open", "close", "admit", "remove", "wake", "dispatch", "report",
+/// Kinds of calls in the order of their record numbers, of which start, 8, is none.
+pub const KINDS: [&str; 8] = [
+    "open", "close", "admit", "remove", "wake", "dispatch", "report", "change",
 ];
 
 /// The call's place in [`KINDS`].
 pub fn kind(call: Call) -> usize {
-    calls::record(call).kind as usize - 1
+    match calls::record(call).kind {
+        kind::CHANGE => 7,
+        number => number as usize - 1,
+    }
 }
 
 /// How often each call gave each answer.
 #[derive(Default)]
 pub struct Tally {
-    counts: [[u64; 17]; 7],
+    counts: [[u64; 17]; 8],
     /// Accepted dispatches that found no runnable thread.
     pub idle: u64,
     /// What occurred of overruns.
     pub late: Late,
+    /// What occurred of changes.
+    pub changes: Changes,
 }
 
 impl Tally {
@@ -223,6 +233,7 @@ impl Tally {
         let reply = both(s, call);
         if reply.answer != 16 {
             self.late.call(&before, call, reply.answer);
+            self.changes.call(&before, call, reply.answer);
         }
         self.add(call, reply);
         reply
@@ -262,5 +273,6 @@ impl Tally {
         }
         println!("idle dispatches: {}", self.idle);
         println!("{:?}", self.late);
+        println!("{:?}", self.changes);
     }
 }

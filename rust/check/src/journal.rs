@@ -5,6 +5,7 @@
 //! a block. Any bytes are a recipe.
 
 use crate::bytes;
+use crate::changes::Changes;
 use crate::compare::{both, sound, start, to_library, to_library_record, to_model_entry};
 use crate::guard::{Guarded, Side};
 use crate::late::Late;
@@ -71,6 +72,31 @@ impl Bytes<'_> {
             used: from.saturating_add_signed(self.byte() as i8 as i32).into(),
         })
     }
+
+    /// The record of a change on a state. The low six bits of a byte are the thread's place in the list, and the others
+    /// say from where the amount's distance is counted, −128 to 127: from the old reservation, from all that the thread
+    /// may have, from what its group has free without it, or from the least amount that leaves the allotment whole.
+    fn change(&mut self, s: &Scheduler) -> Record {
+        let first = self.byte();
+        let place = first as usize % 64;
+        let number = match s.list().len() {
+            0 => place,
+            listed => s.list()[place % listed] as usize,
+        };
+        let t = &s.threads[number];
+        let group = t.group as usize;
+        let free = s.groups[group].ceiling as u32 - s.taken(group);
+        let from = match first >> 6 {
+            0 => t.reservation as u32,
+            1 => free + t.reservation as u32,
+            2 => free,
+            _ => (t.allotment as u32).div_ceil(s.settings.thousandth as u32),
+        };
+        record(Call::Change {
+            number: number as u64,
+            reservation: from.saturating_add_signed(self.byte() as i8 as i32).into(),
+        })
+    }
 }
 
 /// The case of a recipe. Its first byte says how the rest is read: 0 as the journal itself, 1 as blocks
@@ -107,10 +133,15 @@ fn sealed(bytes: &[u8]) -> Vec<u8> {
 /// Most blocks of a list, so that a run stays short.
 const BLOCKS: usize = 24;
 
+/// Items that are a change, with its fields and by the amount's distance.
+const CHANGE: [u8; 2] = [0x6e, 0x8e];
+const CHANGE_BY: [u8; 2] = [0xbe, 0xee];
+
 /// Item by item: the low half of a byte is a record's kind, followed by the fields that it uses; 0 ends the
 /// block; 9 sets a byte of the block under its check and 10 one after it; 11 cuts the end of the journal
 /// off; 12 and 13 are reports by their distance from the slice and from the most that is accepted, in the state
-/// that the records so far make; others are passed over.
+/// that the records so far make. Of the bytes whose low half is 14 two are a change with its fields, and two one by the
+/// amount's distance: those that no recipe had before there were changes. Others are passed over.
 fn listed(mut bytes: Bytes) -> Vec<u8> {
     let mut journal = Vec::new();
     let mut records = Vec::new();
@@ -118,10 +149,13 @@ fn listed(mut bytes: Bytes) -> Vec<u8> {
     let mut cut = 0;
     let mut s = Scheduler::default();
     while !bytes.0.is_empty() && journal.len() < BLOCKS * BLOCK {
-        let kind = bytes.byte() % 16;
+        let item = bytes.byte();
+        let kind = item % 16;
         let record = match kind {
             kind::OPEN..=kind::START => Some(bytes.record(kind)),
             12 | 13 => Some(bytes.report(&s, kind == 13)),
+            _ if CHANGE.contains(&item) => Some(bytes.record(kind::CHANGE)),
+            _ if CHANGE_BY.contains(&item) => Some(bytes.change(&s)),
             _ => None,
         };
         if let Some(record) = record {
@@ -153,11 +187,12 @@ fn listed(mut bytes: Bytes) -> Vec<u8> {
     journal
 }
 
-/// What a replay printed, and what occurred of overruns in it.
+/// What a replay printed, and what occurred of overruns and changes in it.
 #[derive(Clone, Debug, Default, PartialEq, Eq)]
 pub struct Replayed {
     pub printed: String,
     pub late: Late,
+    pub changes: Changes,
 }
 
 /// Replays a journal by the library's functions and by the model. Each block's reading, each call's answer and state and
@@ -168,20 +203,20 @@ pub struct Replayed {
 /// Where something differs.
 pub fn replay(journal: &[u8]) -> Replayed {
     let mut page = Guarded::mapped();
-    let (mut printed, mut late) = (String::new(), Late::default());
+    let mut all = Replayed::default();
     let mut state = Some(Scheduler::default());
     for (place, area) in journal.chunks(BLOCK).enumerate() {
         match read(&mut page, area, place as u32) {
             Err(refusal) => {
                 state = None;
-                let _ = writeln!(printed, "block {place} {refusal}");
+                let _ = writeln!(all.printed, "block {place} {refusal}");
             }
             Ok(records) => {
                 for (i, record) in records.iter().enumerate() {
-                    let reply = run(&mut state, record, &mut late);
+                    let reply = run(&mut state, record, &mut all);
                     let (number, answer) = (RECORDS * place + i, reply.answer);
                     let (thread, slice, before) = (reply.thread, reply.slice, reply.before);
-                    let _ = writeln!(printed, "{number} {answer} {thread} {slice} {before}");
+                    let _ = writeln!(all.printed, "{number} {answer} {thread} {slice} {before}");
                 }
             }
         }
@@ -190,8 +225,8 @@ pub fn replay(journal: &[u8]) -> Replayed {
         roster(&mut page, state);
         accounts(state);
     }
-    assert_eq!(printed.as_bytes(), model::replay::replay(journal));
-    Replayed { printed, late }
+    assert_eq!(all.printed.as_bytes(), model::replay::replay(journal));
+    all
 }
 
 /// Reads a block on both sides, from either end of a page that can't be written, and writes what was read.
@@ -226,12 +261,12 @@ fn read(page: &mut Guarded, area: &[u8], place: u32) -> Result<Vec<Record>, u32>
 }
 
 /// Runs a record on both sides; without a state every record but a start answers 20.
-fn run(state: &mut Option<Scheduler>, r: &Record, late: &mut Late) -> Reply {
+fn run(state: &mut Option<Scheduler>, r: &Record, all: &mut Replayed) -> Reply {
     if r.kind == kind::START {
         let (m, p, o) = (r.amount as u64, r.ticks as u64, r.overrun as u64);
         let started = start(m, p, o);
         let answer = started.err().unwrap_or(0);
-        late.start(m, p, o, answer);
+        all.late.start(m, p, o, answer);
         if let Ok(fresh) = started {
             *state = Some(fresh);
         }
@@ -244,7 +279,8 @@ fn run(state: &mut Option<Scheduler>, r: &Record, late: &mut Late) -> Reply {
         Some(s) => {
             let before = *s;
             let reply = both(s, call);
-            late.call(&before, call, reply.answer);
+            all.late.call(&before, call, reply.answer);
+            all.changes.call(&before, call, reply.answer);
             reply
         }
         None => Reply::plain(20),

@@ -3,6 +3,7 @@
 //! - [`compare`]: a call on both sides, asserted equal.
 //! - [`bytes`]: the bytes that cross the boundary.
 //! - [`late`]: what occurred of overruns.
+//! - [`changes`]: what occurred of changes of a reservation.
 //! - [`program`]: `mtrrun`, run as it was built.
 //! - [`attack`]: arbitrary bytes and arguments to every exported function.
 //! - [`guard`]: memory to lend between two pages that nobody may touch.
@@ -15,6 +16,7 @@
 
 pub mod attack;
 pub mod bytes;
+pub mod changes;
 pub mod compare;
 pub mod faults;
 #[cfg(fuzzing)]

@@ -71,7 +71,7 @@ impl Painted {
 
 /// The calls by their names in C without `mtr_`, the exported function of each, and the bytes of the
 /// reply that the function in C keeps on the stack.
-const CALLS: [(&str, *const (), usize); 16] = [
+const CALLS: [(&str, *const (), usize); 17] = [
     ("start", raw::mtr_by_value_start as *const (), REPLY),
     ("open", raw::mtr_by_value_open as *const (), REPLY),
     ("close", raw::mtr_by_value_close as *const (), REPLY),
@@ -80,6 +80,7 @@ const CALLS: [(&str, *const (), usize); 16] = [
     ("wake", raw::mtr_by_value_wake as *const (), REPLY),
     ("dispatch", raw::mtr_by_value_dispatch as *const (), REPLY),
     ("report", raw::mtr_by_value_report as *const (), REPLY),
+    ("change", raw::mtr_by_value_change as *const (), REPLY),
     ("sound", raw::mtr_by_value_sound as *const (), 0),
     ("priority", raw::mtr_by_value_priority as *const (), 8),
     ("subtree", raw::mtr_by_value_subtree as *const (), 8),
@@ -133,7 +134,7 @@ fn one(
     for record in list.records.iter_mut().take(count as usize) {
         *record = to_library_record(&any_record(r));
     }
-    if call == 15 && r.chance(3, 4) {
+    if call == 16 && r.chance(3, 4) {
         mtr::numbers::write_first(&mut area, 7, list, count as usize);
     }
     let to = reply.as_mut_ptr() as u64;
@@ -143,13 +144,13 @@ fn one(
     let lent = area.as_mut_ptr() as u64;
     let (value, numbers) = match call {
         0 => (nothing, [to, 100, 20_000, r.range(0, 100), 0, 0]),
-        1..=7 => (by_value, step(r, to, call, state)),
-        8 => (by_value, [0; 6]),
-        9 => (nothing, [r.range(0, 11), 0, 0, 0, 0, 0]),
-        10 => (by_value, [r.range(0, 3), 0, 0, 0, 0, 0]),
-        11 | 12 => (by_value, [r.range(0, 64), 0, 0, 0, 0, 0]),
-        13 => (by_value, [table.as_mut_ptr() as u64, 64, 0, 0, 0, 0]),
-        14 => {
+        1..=8 => (by_value, step(r, to, call, state)),
+        9 => (by_value, [0; 6]),
+        10 => (nothing, [r.range(0, 11), 0, 0, 0, 0, 0]),
+        11 => (by_value, [r.range(0, 3), 0, 0, 0, 0, 0]),
+        12 | 13 => (by_value, [r.range(0, 64), 0, 0, 0, 0, 0]),
+        14 => (by_value, [table.as_mut_ptr() as u64, 64, 0, 0, 0, 0]),
+        15 => {
             let records = (&list as *const Records).cast();
             let records = (records, size_of::<Records>());
             (records, [lent, 512, 7, count, 0, 0])
@@ -161,7 +162,7 @@ fn one(
     unsafe { painted.call(function, &handed) }
 }
 
-/// The numbers of one of the seven calls that a state is changed by.
+/// The numbers of one of the eight calls that a state is changed by.
 fn step(r: &mut Rng, to: u64, call: usize, state: &raw::Scheduler) -> [u64; 6] {
     // Of the model's calls on this state the first of the kind, if one comes soon.
     for _ in 0..40 {
@@ -182,6 +183,10 @@ fn step(r: &mut Rng, to: u64, call: usize, state: &raw::Scheduler) -> [u64; 6] {
             Made::Wake { number } => (5, [number, 0, 0]),
             Made::Dispatch => (6, [0; 3]),
             Made::Report { reason, used } => (7, [reason, used, 0]),
+            Made::Change {
+                number,
+                reservation,
+            } => (8, [number, reservation, 0]),
         };
         if kind == call {
             return [to, numbers[0], numbers[1], numbers[2], 0, 0];

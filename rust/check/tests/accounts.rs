@@ -1,5 +1,6 @@
 //! Lag, achieved share and the roster.
 
+use check::changes::Changes;
 use check::compare::{both, start, to_library, to_model_entry};
 use check::late::Late;
 use model::accounts::Entry;
@@ -238,18 +239,26 @@ fn follow(accounts: &mut [Account; 64], call: Call, running: u32) -> Option<usiz
             }
             Some(running as usize)
         }
+        Call::Change {
+            number,
+            reservation,
+        } => {
+            accounts[number as usize].reservation = reservation as i128;
+            accounts[number as usize].anchor();
+            Some(number as usize)
+        }
         Call::Open { .. } | Call::Close { .. } | Call::Dispatch => None,
     }
 }
 
-/// Lag, share and roster at every admission, wake, yield and other report of
-/// long runs.
+/// Lag, share and roster at every admission, wake, change, yield and other
+/// report of long runs.
 #[test]
 fn long_runs() {
     let mut r = Rng::new(63);
-    // Admissions, wakes, and reports by reason.
-    let mut events = [0u64; 6];
-    let mut late = Late::default();
+    // Admissions, wakes, reports by reason, and changes.
+    let mut events = [0u64; 7];
+    let (mut late, mut changes) = (Late::default(), Changes::default());
     for run in 0..40 {
         let (m, p) = match run % 4 {
             0 => (100, 20_000),
@@ -266,6 +275,7 @@ fn long_runs() {
                 continue;
             }
             late.call(&before, c, 0);
+            changes.call(&before, c, 0);
             let running = before.running;
             let Some(n) = follow(&mut accounts, c, running) else {
                 continue;
@@ -274,6 +284,7 @@ fn long_runs() {
                 Call::Admit { .. } => 0,
                 Call::Wake { .. } => 1,
                 Call::Report { reason, .. } => 2 + reason as usize,
+                Call::Change { .. } => 6,
                 _ => continue,
             }] += 1;
             let rows = roster(&s, 64).unwrap();
@@ -297,7 +308,10 @@ fn long_runs() {
             }
         }
     }
-    println!("admissions, wakes, reports by reason: {events:?}");
+    println!("admissions, wakes, reports by reason, changes: {events:?}");
     assert!(events.iter().all(|&n| n > 1_000), "{events:?}");
     assert!(late.overruns() > 1_000, "{late:?}");
+    for sort in ["with a lag", "of a blocked thread", "the same amount"] {
+        assert!(changes.count(sort) > 200, "{changes:?}");
+    }
 }

@@ -14,7 +14,7 @@ const FROM_HOSTILE: u64 = 200_000;
 const _: () = assert!(FROM_SOUND + FROM_START + FROM_HOSTILE >= 1_000_000);
 
 /// The answers of each call on a sound state.
-const ANSWERS: [&[u32]; 7] = [
+const ANSWERS: [&[u32]; 8] = [
     &[0, 2, 3, 4, 5],
     &[0, 2, 6],
     &[0, 2, 4, 5, 7, 8],
@@ -22,6 +22,7 @@ const ANSWERS: [&[u32]; 7] = [
     &[0, 7, 10],
     &[0, 12, 15],
     &[0, 11, 13, 14],
+    &[0, 4, 5, 7, 9],
 ];
 
 #[test]
@@ -48,6 +49,7 @@ fn from_sound_states() {
     }
     assert!(tally.idle > 1_000);
     assert!(tally.late.all_reports(20), "{:?}", tally.late);
+    assert!(tally.changes.rarer(100).is_empty(), "{:?}", tally.changes);
     assert!(running > 1_000 && full > 1_000 && last > 1_000);
 }
 
@@ -96,8 +98,9 @@ fn from_the_start_state() {
     }
     assert!(tally.idle > 20);
     assert!(starts.iter().all(|&n| n > 20));
-    let late = tally.late;
+    let (late, changes) = (tally.late, tally.changes);
     assert!(late.all_reports(5) && late.all_starts(5), "{late:?}");
+    assert!(changes.rarer(20).is_empty(), "{changes:?}");
 }
 
 #[test]

@@ -1,9 +1,11 @@
 //! What the fuzzer began with and what it has learnt, run again: the library's functions, `mtrrun` and the model
 //! agree on each case.
 
+use check::changes::Changes;
 use check::journal::{self, case};
 use check::late::Late;
 use check::program::{printed, root};
+use model::blocks::read_block;
 use std::path::Path;
 use std::process::Command;
 
@@ -36,13 +38,14 @@ fn the_corpus() {
     let recipes = recipes();
     let mut answers = [0u32; 21];
     let mut refused = [0u32; 21];
-    let mut late = Late::default();
+    let (mut late, mut changes) = (Late::default(), Changes::default());
     for (place, recipe) in &recipes {
         let case = case(recipe);
         let wanted = journal::replay(&case.journal);
         let found = printed(&case.journal, &case.pieces);
         assert!(found == wanted.printed.as_bytes(), "{place}");
         late.join(&wanted.late);
+        changes.join(&wanted.changes);
         for line in wanted.printed.lines() {
             let words: Vec<&str> = line.split(' ').collect();
             match words[..] {
@@ -59,6 +62,9 @@ fn the_corpus() {
     // Overruns with something left, nothing left and a debt, each by tick, block, yield and exit; 13 at one tick too many; O = m.
     println!("{late:?}");
     assert!(late.all_reports(1) && late.all_starts(1), "{late:?}");
+    // Changes of every sort: that cut, that leave the allotment, with 4, with 5 for one thousandth, with 7 and with 9.
+    println!("{changes:?}");
+    assert!(changes.rarer(1).is_empty(), "{changes:?}");
 }
 
 /// What a journal prints.
@@ -109,6 +115,42 @@ fn recipes_by_hand() {
         ..Late::default()
     };
     assert_eq!(late.late, wanted);
+}
+
+/// Changes with their fields, and by their amount's distance from each of the four numbers.
+#[test]
+fn recipes_of_changes() {
+    // Threads 5 and 7 of 500 and 100, both changed by their fields, and a number that is not admitted.
+    let list = [
+        2, 0, 0, 3, 5, 0, 0xf4, 1, 3, 7, 0, 100, 0, 0x6e, 7, 200, 0, 0x8e, 5, 0xf4, 1, 0x6e, 6, 1,
+        0,
+    ];
+    let text = "0 0 0 0 0\n1 0 0 0 0\n2 0 0 0 0\n3 0 0 0 0\n4 7 0 0 0\n";
+    assert_eq!(replay(&case(&list).journal), text);
+    // By places in the list: 5 one less than it has; 7 all that it may have, and one more; 5 two more than is free; 7 what its allotment
+    // of 10,000 fills, and one less.
+    let by = [
+        0xee, 0, 0xff, 0xbe, 0x41, 0, 0xee, 0x41, 1, 0xbe, 0x80, 2, 0xee, 0xc1, 0, 0xee, 0xc3, 0xff,
+    ];
+    let recipe = [&list[..], &by].concat();
+    let records = read_block(&case(&recipe).journal, 0).unwrap();
+    let amounts = records[5..].iter().map(|r| (r.kind, r.subject, r.amount));
+    let wanted = [
+        (9, 5, 499),
+        (9, 7, 501),
+        (9, 7, 502),
+        (9, 5, 2),
+        (9, 7, 100),
+        (9, 7, 99),
+    ];
+    assert!(amounts.eq(wanted), "{records:?}");
+    let lines = "5 0 0 0 0\n6 0 0 0 0\n7 5 0 0 0\n8 0 0 0 0\n9 0 0 0 0\n10 0 0 0 0\n";
+    assert_eq!(replay(&case(&recipe).journal), [text, lines].concat());
+    // Of an empty list the number itself; other items with the same low half are passed over.
+    let none = case(&[2, 0, 0, 0x0e, 0x1e, 0xfe, 0xee, 0x45, 1]).journal;
+    let records = read_block(&none, 0).unwrap();
+    assert_eq!((records[0].subject, records[0].amount), (5, 1001));
+    assert_eq!(replay(&none), "0 7 0 0 0\n");
 }
 
 /// The part that only the fuzzer's build has compiles, without a warning.

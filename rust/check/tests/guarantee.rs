@@ -75,6 +75,10 @@ struct Stretches {
     /// some state without a yield; and as second: admitted since.
     first: [bool; 64],
     second: [bool; 64],
+    /// Whether, since then, another thread was given another reservation, and
+    /// the thread its own again, as first and as second.
+    changed: [bool; 64],
+    again: [[bool; 64]; 2],
     /// By the overruns that are allowed for.
     least: [Least; 3],
     totals: Totals,
@@ -90,6 +94,10 @@ struct Totals {
     /// Checks right after an overrun of another thread and after one of the first thread's own.
     others: u64,
     own: u64,
+    /// Checks of stretches in which others' reservations were changed, and in which the first thread, or for the second limit
+    /// both, were given their own again.
+    changed: u64,
+    again: [u64; 2],
 }
 
 impl Totals {
@@ -109,6 +117,9 @@ impl Totals {
         }
         self.others += other.others;
         self.own += other.own;
+        self.changed += other.changed;
+        self.again[0] += other.again[0];
+        self.again[1] += other.again[1];
     }
 }
 
@@ -139,6 +150,8 @@ impl Stretches {
             named: s.running,
             first: s.threads.map(|t| t.status == RUNNABLE),
             second: s.threads.map(|t| t.status != 0),
+            changed: [false; 64],
+            again: [[false; 64]; 2],
             least: [none(), none(), none()],
             totals: Totals::default(),
         }
@@ -167,6 +180,8 @@ impl Stretches {
     /// A stretch with the thread as first can begin here.
     fn begin_first(&mut self, a: usize) {
         self.first[a] = true;
+        self.changed[a] = false;
+        self.again[0][a] = false;
         for (k, allowed) in ALLOWED.into_iter().enumerate() {
             self.least[k].owed[a] = self.owed(a, allowed);
             for b in 0..64 {
@@ -178,6 +193,7 @@ impl Stretches {
     /// A stretch with the thread as second can begin here.
     fn begin_second(&mut self, b: usize) {
         self.second[b] = true;
+        self.again[1][b] = false;
         for (k, allowed) in ALLOWED.into_iter().enumerate() {
             for a in 0..64 {
                 self.least[k].ahead[a][b] = self.ahead(a, b, allowed);
@@ -206,7 +222,29 @@ impl Stretches {
                 let slice = (t.allotment as i64).min(self.p);
                 self.report(reason, used as i64, (used as i64 - slice).max(0));
             }
+            Call::Change { number, .. } => {
+                let n = number as usize;
+                self.change(n, after.threads[n].reservation as i64);
+            }
             Call::Open { .. } | Call::Close { .. } => {}
+        }
+    }
+
+    /// With its own reservation again every stretch of the thread goes on. With another one those with it as first or as
+    /// second end, and others begin: as first once it is runnable.
+    fn change(&mut self, n: usize, reservation: i64) {
+        if self.reservation[n] == reservation {
+            self.again[0][n] = true;
+            self.again[1][n] = true;
+            return;
+        }
+        self.reservation[n] = reservation;
+        if self.first[n] {
+            self.begin_first(n);
+        }
+        self.begin_second(n);
+        for a in (0..64).filter(|&a| a != n) {
+            self.changed[a] = true;
         }
     }
 
@@ -224,6 +262,8 @@ impl Stretches {
                 self.check(a, n);
                 self.totals.others += (overrun > 0 && a != n) as u64;
                 self.totals.own += (overrun > 0 && a == n) as u64;
+                self.totals.changed += self.changed[a] as u64;
+                self.totals.again[0] += self.again[0][a] as u64;
             }
         }
         // Those that begin after it. A report of another thread makes no sum of the first thread's smaller.
@@ -264,6 +304,7 @@ impl Stretches {
             limit.owed = theirs;
             limit.allowed = 2 * f * limit.g * m;
             self.totals.add(1, limit, [none, own]);
+            self.totals.again[1] += (self.again[0][a] && self.again[1][n]) as u64;
         }
     }
 }
@@ -281,6 +322,9 @@ fn say(name: &str, totals: &Totals) {
     }
     let Totals { others, own, .. } = totals;
     lines += &format!("{name}: {others} checks after an overrun of another, {own} after its own\n");
+    let Totals { changed, again, .. } = totals;
+    lines +=
+        &format!("{name}: {changed} checks where others changed, {again:?} with the own again\n");
     let _ = std::io::stderr().write_all(lines.as_bytes());
 }
 
@@ -301,19 +345,27 @@ fn admit(number: u64, reservation: u64) -> Call {
     }
 }
 
+fn change(number: u64, reservation: u64) -> Call {
+    Call::Change {
+        number,
+        reservation,
+    }
+}
+
 const READOUT: u64 = 1;
 const EXPORTER: u64 = 2;
 
-/// From this style of a storm on timers fire late.
+/// From these styles of a storm on timers fire late, and reservations change.
 const LATE: u64 = 7;
+const CHANGING: u64 = 10;
 
 /// Readout holds 500 and never blocks. The exporter blocks in every run and is
 /// woken at every dispatch, before it or after it. Readout's bound holds at
 /// every report, over every stretch that ends there, and the library's lag is
-/// what it is owed.
+/// what it is owed. The others' reservations may change between reports.
 fn storm(r: &mut Rng, exporter: u64, others: u64, style: u64, totals: &mut Totals) {
     let (m, p) = match style {
-        0 | 3 | 6 | 7 => (100, 20_000),
+        0 | 3 | 6 | 7 | 10 => (100, 20_000),
         1 | 4 => (1, 7),
         8 => (10, 50),
         _ => (r.range(2, 100), r.range(1_000, 1_000_000)),
@@ -332,6 +384,14 @@ fn storm(r: &mut Rng, exporter: u64, others: u64, style: u64, totals: &mut Total
     // Ticks beyond the slice: of the others, and readout's own.
     let mut over = [0, 0];
     for _ in 0..8_000 {
+        if style >= CHANGING && r.chance(1, 2) {
+            let n = r.pick(s.list()) as u64;
+            let room = 1000 - s.taken(0) as u64 + s.threads[n as usize].reservation as u64;
+            if n != READOUT {
+                let c = change(n, r.edgy(1, room));
+                assert_eq!(step(&mut s, &mut stretches, c).answer, 0);
+            }
+        }
         let asleep = s.threads[EXPORTER as usize].status == BLOCKED;
         let late = r.chance(1, 2);
         if asleep && !late {
@@ -373,6 +433,7 @@ fn storm(r: &mut Rng, exporter: u64, others: u64, style: u64, totals: &mut Total
     }
     assert!(runs > 20 && had > 0, "{runs} runs of the exporter");
     assert_eq!(over.iter().all(|&ticks| ticks > 0), style >= LATE);
+    assert_eq!(stretches.totals.changed > 1_000, style >= CHANGING);
     totals.join(&stretches.totals);
 }
 
@@ -380,7 +441,7 @@ fn storm(r: &mut Rng, exporter: u64, others: u64, style: u64, totals: &mut Total
 fn wake_storm() {
     let mut r = Rng::new(41);
     let mut totals = Totals::default();
-    for style in 0..10 {
+    for style in 0..12 {
         for (exporter, others) in [(500, 0), (1, 1), (100, 4), (499, 1), (250, 50)] {
             storm(&mut r, exporter, others, style, &mut totals);
         }
@@ -392,8 +453,11 @@ fn wake_storm() {
 /// A call that starves the target: the others use whole slices and what is
 /// accepted beyond, the target mostly as little as it can, and whoever is
 /// blocked wakes. Where they `leave` they do so in debt, which goes with them,
-/// and come back.
-fn starving_call(r: &mut Rng, s: &Scheduler, target: usize, leave: bool) -> Call {
+/// and come back. Where they `change`, room goes to whom it gains most.
+fn starving_call(r: &mut Rng, s: &Scheduler, target: usize, leave: bool, change: bool) -> Call {
+    if change && r.chance(1, 3) {
+        return starving_change(r, s, target);
+    }
     let blocked = |n: &usize| s.threads[*n].status == BLOCKED;
     if let (true, Some(n)) = (r.chance(1, 2), (0..64).find(blocked)) {
         return Call::Wake { number: n as u64 };
@@ -417,10 +481,38 @@ fn starving_call(r: &mut Rng, s: &Scheduler, target: usize, leave: bool) -> Call
     Call::Report { reason, used }
 }
 
-/// A call that rarely ends a premise: threads mostly stay and use whole slices,
-/// at times all that is accepted.
+/// A change that gives all that is free to the thread whose turn comes, or takes
+/// from another what its allotment does not need. The target mostly keeps what
+/// it has.
+fn starving_change(r: &mut Rng, s: &Scheduler, target: usize) -> Call {
+    let listed = s.list().iter().map(|&n| n as usize);
+    let waiting: Vec<usize> = listed.filter(|&n| n as u32 != s.running).collect();
+    let n = match waiting.first() {
+        Some(&next) if r.chance(2, 3) => next,
+        Some(_) => r.pick(&waiting),
+        None => target,
+    };
+    let t = &s.threads[n];
+    let (group, old) = (t.group as usize, t.reservation as u64);
+    let reservation = if n == target && !r.chance(1, 60) {
+        old
+    } else if waiting.first() == Some(&n) {
+        old + s.groups[group].ceiling as u64 - s.taken(group) as u64
+    } else {
+        (t.allotment as u64).div_ceil(s.settings.thousandth as u64)
+    };
+    change(n as u64, reservation)
+}
+
+/// A call that rarely ends a premise: threads mostly stay, keep their
+/// reservations and use whole slices, at times all that is accepted.
 fn sparing_call(r: &mut Rng, s: &Scheduler) -> Call {
-    let call = call(r, s);
+    let call = match call(r, s) {
+        Call::Change { number, .. } if s.admitted(number) && !r.chance(1, 8) => {
+            change(number, s.threads[number as usize].reservation as u64)
+        }
+        other => other,
+    };
     let ends = match call {
         Call::Report { reason, .. } => reason != 0 && !r.chance(1, 50),
         Call::Remove { .. } => !r.chance(1, 20),
@@ -478,13 +570,13 @@ fn random_stretches() {
         if round % 4 == 3 {
             (s, target) = crowded(&mut r);
         }
-        let leave = starve && r.chance(1, 2);
+        let (leave, change) = (r.chance(1, 2), r.chance(1, 2));
         let mut stretches = Stretches::new(&s);
         for _ in 0..if starve { 400 } else { 150 } {
             let c = match round % 4 {
                 0 => call(&mut r, &s),
                 1 => sparing_call(&mut r, &s),
-                _ => starving_call(&mut r, &s, target, leave),
+                _ => starving_call(&mut r, &s, target, leave, change),
             };
             let (named, running) = (stretches.named, s.running);
             let reply = step(&mut s, &mut stretches, c);
@@ -499,6 +591,8 @@ fn random_stretches() {
     // Overruns are frequent. Neither limit would hold without its last term, nor with the first thread's overruns there.
     assert!(totals.others > 1_000_000 && totals.own > 100_000);
     assert!(totals.exceeded.iter().flatten().all(|&n| n > 1_000));
+    // So are others' changes, and changes of the first and the second thread to what they have.
+    assert!(totals.changed > 1_000_000 && totals.again.iter().all(|&n| n > 100_000));
 }
 
 /// Dispatches, expects a thread and its slice, and reports.
@@ -553,4 +647,97 @@ fn the_second_limit_needs_the_overruns() {
     let (had, second, overruns) = (1, 5_009 + 5_000, 9 + 9);
     let limit = g * had + 2 * f * g * m;
     assert!(f * second > limit && f * second <= limit + f * overruns);
+}
+
+/// What counts in a stretch from its beginning on: ticks of all, of thread 1 and of thread 2.
+#[derive(Default)]
+struct Sums {
+    all: u64,
+    first: u64,
+    second: u64,
+}
+
+impl Sums {
+    /// Runs a thread for these slices, each to its end.
+    fn run(&mut self, s: &mut Scheduler, thread: u32, slices: &[u32]) {
+        for &slice in slices {
+            run(s, thread, slice, 0, slice as u64);
+            self.all += slice as u64;
+            match thread {
+                1 => self.first += slice as u64,
+                _ => self.second += slice as u64,
+            }
+        }
+    }
+}
+
+/// Threads 1 and 2 of these reservations with the default settings.
+fn two(f: u64, g: u64) -> Scheduler {
+    let mut s = start(100, 20_000, 0).unwrap();
+    for (number, reservation) in [(1, f), (2, g)] {
+        assert_eq!(both(&mut s, admit(number, reservation)).answer, 0);
+    }
+    s
+}
+
+fn changed(s: &mut Scheduler, number: u64, reservation: u64) {
+    assert_eq!(both(s, change(number, reservation)).answer, 0);
+}
+
+/// It is not enough that the reservation of the first thread is the same at both ends: changed to 1 and back in every
+/// round, its allotment is cut each time, and both limits are exceeded. Changed to what it is, it has its half.
+#[test]
+fn the_limits_need_the_first_reservation_at_every_point() {
+    let (f, g, m, p) = (500, 500, 100, 20_000);
+    let limit = 2 * f * (1000 - f) * m + f * p;
+    let mut s = two(f, g);
+    let mut sums = Sums::default();
+    for round in 1..=20 {
+        changed(&mut s, 1, 1);
+        changed(&mut s, 1, f);
+        sums.run(&mut s, 1, &[100]);
+        sums.run(&mut s, 2, &[20_000, 20_000, 10_000]);
+        assert_eq!(s.threads[1].reservation as u64, f);
+        let owed = f * sums.all - 1000 * sums.first;
+        assert_eq!(owed, 24_950_000 * round);
+        assert_eq!(owed > limit, round > 2);
+        let ahead = f * sums.second - g * sums.first;
+        assert_eq!(ahead > 2 * f * g * m, round > 2);
+    }
+    assert_eq!(limit, 60_000_000);
+    assert_eq!(f * sums.all - 1000 * sums.first, 499_000_000);
+
+    let mut s = two(f, g);
+    let mut sums = Sums::default();
+    for _ in 0..20 {
+        for thread in [1, 2] {
+            for slice in [20_000, 20_000, 10_000] {
+                changed(&mut s, 1, f);
+                sums.run(&mut s, thread, &[slice]);
+            }
+        }
+        assert_eq!(f * sums.all, 1000 * sums.first);
+    }
+}
+
+/// Nor that of the second: with 1 at both ends and 500 while it moves to the rear, it gets more than the second limit. The
+/// first limit holds meanwhile, since the second thread is one of the others there.
+#[test]
+fn the_second_limit_needs_the_second_reservation_at_every_point() {
+    let (f, g, m, p) = (500, 1, 100, 20_000);
+    let mut s = two(f, g);
+    let mut sums = Sums::default();
+    for round in 1..=20 {
+        sums.run(&mut s, 1, &[20_000, 20_000, 10_000]);
+        changed(&mut s, 2, 500);
+        sums.run(&mut s, 2, &[100]);
+        sums.run(&mut s, 1, &[20_000, 20_000, 10_000]);
+        sums.run(&mut s, 2, &[20_000, 20_000]);
+        changed(&mut s, 2, g);
+        sums.run(&mut s, 2, &[100]);
+        assert_eq!(s.threads[2].reservation as u64, g);
+        assert_eq!((sums.first, sums.second), (100_000 * round, 40_200 * round));
+        assert!(f * sums.second > g * sums.first + 2 * f * g * m);
+        assert!(f * sums.all <= 1000 * sums.first + 2 * f * (1000 - f) * m + f * p);
+    }
 }

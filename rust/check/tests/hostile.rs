@@ -39,6 +39,9 @@ fn a_million_calls() {
     }
     let late = attack.late;
     assert!(late.all_reports(10) && late.all_starts(100), "{late:?}");
+    // Changes that cut, that leave the allotment, of every thread and group, to the thousandth and beyond it.
+    let changes = attack.changes;
+    assert!(changes.rarer(20).is_empty(), "{changes:?}");
     // At either guard page, areas of some length and of none.
     assert!(
         attack.areas.iter().flatten().all(|&n| n > 100),

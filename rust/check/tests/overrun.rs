@@ -250,7 +250,7 @@ fn read(block: &[u8; BLOCK_BYTES]) -> numbers::Found {
 /// Bytes 10 and 11 of every kind with every value: read as O of a start, and 19 for any other kind. The same of a record to write.
 #[test]
 fn every_value_of_bytes_10_and_11() {
-    for kind in kind::OPEN..=kind::START {
+    for kind in kind::OPEN..=kind::CHANGE {
         let mut answers = [0u64; 2];
         for held in 0..=u16::MAX {
             let fits = kind == kind::START || held == 0;
@@ -281,7 +281,7 @@ fn every_value_of_bytes_10_and_11() {
 #[test]
 fn bytes_that_no_kind_uses() {
     for kind in 0..=255 {
-        let known = (kind::OPEN..=kind::START).contains(&kind);
+        let known = (kind::OPEN..=kind::CHANGE).contains(&kind);
         for place in 12..16 {
             for byte in 1..=255 {
                 assert_eq!(read(&with_bytes(kind, place, &[byte])).answer, 19);

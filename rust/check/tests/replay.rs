@@ -1,5 +1,6 @@
 //! The program `mtrrun` against the model's replay: the same bytes on standard output for the same bytes on standard input.
 
+use check::changes::Changes;
 use check::program::{printed, root};
 use model::random::{journal, Rng};
 use model::replay::replay;
@@ -38,10 +39,14 @@ fn generated_journals() {
     let mut rng = Rng::new(6);
     let mut refused_blocks = 0;
     let mut answers = [0u32; 21];
+    let mut changes = Changes::default();
     for round in 0..3000 {
         let input = journal(&mut rng);
         let expected = replay(&input);
         assert_eq!(whole(&input), expected, "journal {round}");
+        if round < 300 {
+            changes.join(&check::journal::replay(&input).changes);
+        }
         for line in expected.split(|&b| b == b'\n') {
             let text = std::str::from_utf8(line).unwrap();
             let mut fields = text.split(' ');
@@ -58,6 +63,7 @@ fn generated_journals() {
     }
     assert_eq!(answers[15] + answers[16..20].iter().sum::<u32>(), 0);
     assert!(refused_blocks > 100);
+    assert!(changes.rarer(5).is_empty(), "{changes:?}");
 }
 
 #[test]

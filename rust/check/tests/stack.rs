@@ -21,7 +21,7 @@ fn stated() -> Vec<(String, usize)> {
 #[test]
 fn within_its_limit() {
     let measured = check::stack::measured(300);
-    assert_eq!(measured.len(), 16);
+    assert_eq!(measured.len(), 17);
     for (name, taken) in &measured {
         let most = if *name == "roster" { MOST_ROSTER } else { MOST };
         assert!(
@@ -30,7 +30,7 @@ fn within_its_limit() {
         );
     }
     // By calls that take a state the state itself is taken, and the test of it.
-    assert!(measured.iter().filter(|m| m.1 > 5_000).count() == 12);
+    assert!(measured.iter().filter(|m| m.1 > 5_000).count() == 13);
 }
 
 #[test]

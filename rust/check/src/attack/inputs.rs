@@ -1,7 +1,7 @@
 //! What is passed: states, arguments, records and blocks, arbitrary or nearly right.
 
 use crate::bytes::{self, STATE};
-use crate::compare::{to_library, to_library_record};
+use crate::compare::{to_library, to_library_record, to_model};
 use crate::guard::Side;
 use model::blocks::{check, write_block, BLOCK, RECORD};
 use model::calls::Call;
@@ -156,25 +156,62 @@ pub(super) fn any_call(r: &mut Rng, function: usize, state: &raw::Scheduler) -> 
             number: argument(r, 63),
         },
         6 => Call::Dispatch,
-        _ => {
-            let allotment = match state.threads.get(state.running as usize) {
-                Some(t) => t.allotment.max(0) as u64,
-                None => 1_000,
-            };
-            let slice = allotment.min(state.settings.interval as u64);
-            let most = slice + state.settings.overrun as u64;
-            Call::Report {
-                reason: argument(r, 3),
-                used: match r.below(8) {
-                    0 => argument(r, 1_000_000),
-                    1 => slice + r.below(2),
-                    2 => most + r.below(2),
-                    3 | 4 => r.edgy(slice, most),
-                    5 => allotment.min(most),
-                    _ => r.edgy(0, slice),
-                },
-            }
-        }
+        7 => report(r, state),
+        _ => change(r, state),
+    }
+}
+
+fn report(r: &mut Rng, state: &raw::Scheduler) -> Call {
+    let allotment = match state.threads.get(state.running as usize) {
+        Some(t) => t.allotment.max(0) as u64,
+        None => 1_000,
+    };
+    let slice = allotment.min(state.settings.interval as u64);
+    let most = slice + state.settings.overrun as u64;
+    Call::Report {
+        reason: argument(r, 3),
+        used: match r.below(8) {
+            0 => argument(r, 1_000_000),
+            1 => slice + r.below(2),
+            2 => most + r.below(2),
+            3 | 4 => r.edgy(slice, most),
+            5 => allotment.min(most),
+            _ => r.edgy(0, slice),
+        },
+    }
+}
+
+/// A change of any thread or of the running one. The amount is any, next to the old one, to all that the group has
+/// free, or to what the allotment fills.
+fn change(r: &mut Rng, state: &raw::Scheduler) -> Call {
+    let listed = state.order.get(..state.count as usize);
+    let number = match (r.below(8), listed) {
+        (0, _) => state.running as u64,
+        (1..=4, Some(list)) if !list.is_empty() => r.pick(list) as u64,
+        _ => argument(r, 63),
+    };
+    // Of a number that is no thread's some thread's numbers.
+    let t = &state.threads[number as usize % 64];
+    let s = to_model(state);
+    let group = t.group as usize % 16;
+    let free = (s.groups[group].ceiling as u64).saturating_sub(s.taken(group) as u64);
+    let old = t.reservation as u64;
+    let filled = (t.allotment.max(0) as u64).div_ceil(state.settings.thousandth.max(1) as u64);
+    let reservation = match r.below(12) {
+        0 | 1 => argument(r, 1_000),
+        2 => r.edgy(0, 1_001),
+        3 => old,
+        4 => (old + r.below(3)).saturating_sub(1),
+        5 | 6 => free + old + r.below(2),
+        7 => free + r.below(2),
+        8 => filled,
+        9 => (filled + r.below(3)).saturating_sub(1),
+        10 => r.range(1, old),
+        _ => r.range(1, free + old),
+    };
+    Call::Change {
+        number,
+        reservation,
     }
 }
 

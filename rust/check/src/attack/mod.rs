@@ -9,6 +9,7 @@ mod inputs;
 pub use classes::{ALLOTMENTS, LIMITS, ORIGINS};
 
 use crate::bytes;
+use crate::changes::Changes;
 use crate::compare::{made, to_library, to_model, to_model_entry, to_model_record, ZEROS};
 use crate::faults;
 use crate::guard::{Guarded, Side};
@@ -34,7 +35,7 @@ pub const SEED: u64 = 2026;
 pub const ROUNDS: u64 = 1_000_000 / CALLS;
 
 /// The exported functions, and the answers that each one can give.
-pub const FUNCTIONS: [(&str, &[u32]); 16] = [
+pub const FUNCTIONS: [(&str, &[u32]); 17] = [
     ("mtr_by_value_start", &[0, 1]),
     ("mtr_by_value_open", &[0, 2, 3, 4, 5, 16]),
     ("mtr_by_value_close", &[0, 2, 6, 16]),
@@ -43,6 +44,7 @@ pub const FUNCTIONS: [(&str, &[u32]); 16] = [
     ("mtr_by_value_wake", &[0, 7, 10, 16]),
     ("mtr_by_value_dispatch", &[0, 12, 15, 16]),
     ("mtr_by_value_report", &[0, 11, 13, 14, 16]),
+    ("mtr_by_value_change", &[0, 4, 5, 7, 9, 16]),
     ("mtr_by_value_sound", &[0, 1]),
     ("mtr_by_value_priority", &[0, 4]),
     ("mtr_by_value_subtree", &[0, 2, 16]),
@@ -62,7 +64,7 @@ pub struct Attack {
     round: u64,
     call: u64,
     /// By function and answer.
-    pub answers: [[u64; 20]; 16],
+    pub answers: [[u64; 20]; 17],
     /// By origin of the first state: not sound, sound.
     pub states: [[u64; 2]; 5],
     /// By the first state's overrun limit and by the allotments of its listed threads.
@@ -70,6 +72,8 @@ pub struct Attack {
     pub allotments: [[u64; 2]; 9],
     /// What occurred of overruns.
     pub late: Late,
+    /// What occurred of changes.
+    pub changes: Changes,
     /// Accepted dispatches that were idle.
     pub idle: u64,
     /// Lent areas by side and length.
@@ -83,11 +87,12 @@ impl Attack {
             seed,
             round: 0,
             call: 0,
-            answers: [[0; 20]; 16],
+            answers: [[0; 20]; 17],
             states: [[0; 2]; 5],
             limits: [[0; 2]; 6],
             allotments: [[0; 2]; 9],
             late: Late::default(),
+            changes: Changes::default(),
             idle: 0,
             areas: [[0; 2]; 2],
         }
@@ -143,13 +148,13 @@ impl Attack {
     fn make(&mut self, r: &mut Rng, function: usize, state: &mut raw::Scheduler) -> u32 {
         match function {
             0 => self.start(r, state),
-            1..=7 => self.step(r, function, state),
-            8 => {
+            1..=8 => self.step(r, function, state),
+            9 => {
                 let found = raw::mtr_by_value_sound(*state);
                 self.same(function, "", found, to_model(state).sound() as u32);
                 found
             }
-            9 => {
+            10 => {
                 let number = argument(r, 10);
                 let found = raw::mtr_by_value_priority(number);
                 let (answer, reservation) = split(priority(number));
@@ -160,7 +165,7 @@ impl Attack {
                 self.same(function, format_args!("{number}"), found, wanted);
                 answer
             }
-            10 => {
+            11 => {
                 let group = argument(r, 15);
                 let found = raw::mtr_by_value_subtree(*state, group);
                 let (answer, thousandths) = split(subtree(&to_model(state), group));
@@ -171,7 +176,7 @@ impl Attack {
                 self.same(function, format_args!("{group} {state:?}"), found, wanted);
                 answer
             }
-            11 => {
+            12 => {
                 let number = argument(r, 63);
                 let found = raw::mtr_by_value_lag(*state, number);
                 let (answer, lag) = split(to_model(state).lag(number));
@@ -182,7 +187,7 @@ impl Attack {
                 self.same(function, format_args!("{number} {state:?}"), found, wanted);
                 answer
             }
-            12 => {
+            13 => {
                 let number = argument(r, 63);
                 let found = raw::mtr_by_value_share(*state, number);
                 let (answer, share) = split(to_model(state).share(number));
@@ -193,8 +198,8 @@ impl Attack {
                 self.same(function, format_args!("{number} {state:?}"), found, wanted);
                 answer
             }
-            13 => self.roster(r, state),
-            14 => self.write(r),
+            14 => self.roster(r, state),
+            15 => self.write(r),
             _ => self.read(r),
         }
     }
@@ -243,6 +248,7 @@ impl Attack {
         }
         if numbers.answer != 16 {
             self.late.call(&before, call, numbers.answer);
+            self.changes.call(&before, call, numbers.answer);
         }
         self.idle += (numbers.answer == 0 && numbers.thread == 64) as u64;
         *state = found.state;
@@ -274,19 +280,19 @@ impl Attack {
         let mut wanted: Vec<_> = contents.chunks_exact(ENTRY).map(entry).collect();
         let answer = s.roster(&mut wanted);
         let of = format_args!("of {length} {side:?}");
-        self.same(13, of, found, answer);
+        self.same(14, of, found, answer);
         let after = self.page.contents(side, contents.len());
         self.same(
-            13,
+            14,
             of,
             after.chunks_exact(ENTRY).map(entry).collect(),
             wanted,
         );
         if answer != 0 {
-            self.same(13, of, after, contents);
+            self.same(14, of, after, contents);
         }
         self.same(
-            13,
+            14,
             "memory around the table",
             self.page.intact(side, contents.len()),
             true,
@@ -317,13 +323,13 @@ impl Attack {
         let mut wanted = contents.to_vec();
         let answer = write_block(&mut wanted, number, &records);
         let of = format_args!("of {length} {side:?}, block {number}, {count} of {list:?}");
-        self.same(14, of, found, answer);
-        self.same(14, of, self.page.contents(side, length), &wanted);
+        self.same(15, of, found, answer);
+        self.same(15, of, self.page.contents(side, length), &wanted);
         if answer != 0 {
-            self.same(14, of, self.page.contents(side, length), contents);
+            self.same(15, of, self.page.contents(side, length), contents);
         }
         self.same(
-            14,
+            15,
             "memory around the area",
             self.page.intact(side, length),
             true,
@@ -351,11 +357,11 @@ impl Attack {
         };
         let wanted = bytes::found(answer, &records);
         let of = format_args!("of {length} {side:?}, block {number}, {contents:?}");
-        self.same(15, of, found, bytes::to(&wanted));
-        self.same(15, "bytes", bytes::of(&found) == wanted, true);
-        self.same(15, of, self.page.contents(side, length), contents);
+        self.same(16, of, found, bytes::to(&wanted));
+        self.same(16, "bytes", bytes::of(&found) == wanted, true);
+        self.same(16, of, self.page.contents(side, length), contents);
         self.same(
-            15,
+            16,
             "memory around the area",
             self.page.intact(side, length),
             true,
