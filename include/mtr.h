@@ -70,15 +70,15 @@
  *     mtr_wake             11216            4553
  *     mtr_dispatch         11216            5292
  *     mtr_report           11328            4841
- *     mtr_change           11400            4800
+ *     mtr_change           11360            4745
  *     mtr_sound             5752            3936
  *     mtr_priority            16               8
  *     mtr_subtree           8252            6647
  *     mtr_lag              11224            4545
  *     mtr_share            11216            4544
  *     mtr_roster           14600           30904
- *     mtr_write_block        824            3192
- *     mtr_read_block        1220            3831
+ *     mtr_write_block        824            3195
+ *     mtr_read_block        1220            3817
  */
 #ifndef MTR_H
 #define MTR_H
