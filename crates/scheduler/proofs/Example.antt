@@ -1,7 +1,7 @@
 -- The guarantee's hypotheses are met by concrete stretches, on which the definitions compute: the listing of RULE 10.1 from the state with
 -- both threads admitted, one with overruns, which the two limits need, and one with changes. Between them the worked example with an
 -- overrun limit; at the end two stretches in which a reservation is the same at both ends, but not in between, and a limit fails.
-use Prim.Native.Nat.{_+_, _-_, _*_, _≤_, _<_}
+use Prim.Native.Nat.{ℕ, _+_, _-_, _*_, _≤_, _<_}
 use mathlib.Core.Path.{_≡_, refl}
 use mathlib.Core.List.{List, [], _∷_, _++_, map}
 use lib.ListN.{take, drop}
@@ -9,7 +9,7 @@ use native.Mathlib.Omega.{arith}
 use lib.Dec.{T, lit<}
 use lib.IntN.{pos}
 use Rattle.scheduler.specs.declared.Scheduler.{Scheduler}
-use Rattle.scheduler.specs.State.{reservationAt, allotmentAt, withThread}
+use Rattle.scheduler.specs.State.{reservedAt, runnableAt, reservationAt, allotmentAt, withThread}
 use Rattle.scheduler.specs.Sound.{sound}
 use Rattle.scheduler.specs.Refusals.{Call, admit, wake, dispatch, report, change, startRefusal}
 use Rattle.scheduler.specs.Effects.{started}
@@ -226,3 +226,14 @@ unfolding computes thin bulge
 bulge-takes h =
     let broken : 500 * 501 ≤ 1 * 500 + 1000 + 0 = h in
     omega (arith, broken)
+
+-- So the guarantee fails with the reservation the same at both ends in the place of `Unchanged`: of x for the first limit,
+pub ends-not-enough : ((s : Scheduler) → T (sound s) → (cs : List Call) (x : ℕ) → T (reservedAt s x) → T (runnableAt s x)
+    → T (throughout (keepsRunnable x) (s .running) (trace s cs)) → reservationAt (final s cs) x ≡ reservationAt s x → Owed s cs x) → ⊥
+unfolding computes halves
+ends-not-enough h = swing-starves (h halves halves-sound swings 7 tt tt swing-kept swing-ends)
+
+-- and of y for the second.
+pub ends-not-enough-second : ((s : Scheduler) → T (sound s) → (cs : List Call) (x y : ℕ) → Protected s cs x → Present s cs y
+    → reservationAt (final s cs) y ≡ reservationAt s y → Second s cs x y) → ⊥
+ends-not-enough-second h = bulge-takes (h thin thin-sound bulge 7 5 (bulge-kept .0) (bulge-kept .1) bulge-ends)

@@ -7,6 +7,7 @@ pub mod Tree
 pub mod ListRule
 pub mod Soundness
 pub mod Preserved
+pub mod Room
 pub mod Share
 pub mod Guarantee
 pub mod Computes

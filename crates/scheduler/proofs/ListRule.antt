@@ -30,7 +30,7 @@ use Rattle.scheduler.proofs.Passed.{passes, admit-passed, remove-passed
 use Rattle.scheduler.proofs.Passed.{reported-cases}
 use Rattle.scheduler.proofs.Steps.{step-state, refused-state, woken-listed, chosen-runnable, after-fits, charged-left}
 use Rattle.scheduler.proofs.Steps.{woken-allotment, changed-listed, changed-allotment}
-use Rattle.scheduler.specs.Accounts.{lagOf}
+use Rattle.scheduler.specs.Accounts.{lagOf, shareOf}
 
 -- the thread that a call puts into the list, takes off it or may move, or 64
 unfoldable pub mover : Call → Scheduler → ℕ
@@ -327,3 +327,36 @@ change-lag n d s e =
     blocked : (b : Bool) → cond b (pos 0) (subℕ (d * (s .meter - s .meter)) (1000 * 0)) ≡ pos 0
     blocked true = refl
     blocked false = still d (s .meter)
+
+-- RULE 2.11, 4.2: of the entry the reservation is set, and the anchor, also where the thread is blocked; status, group, admission and ticks
+-- stay,
+pub change-entry : (n d : ℕ) (s : Scheduler) → refusal (change n d) s ≡ 0
+    → ((threadAt (effect (change n d) s) n) .reservation ≡ d)
+    × ((threadAt (effect (change n d) s) n) .anchor ≡ s .meter)
+    × ((threadAt (effect (change n d) s) n) .since ≡ 0)
+    × ((threadAt (effect (change n d) s) n) .status ≡ (threadAt s n) .status)
+    × ((threadAt (effect (change n d) s) n) .group ≡ (threadAt s n) .group)
+    × ((threadAt (effect (change n d) s) n) .admission ≡ (threadAt s n) .admission)
+    × ((threadAt (effect (change n d) s) n) .ticks ≡ (threadAt s n) .ticks)
+unfolding effect changedThread
+change-entry n d s e =
+    let ok = passes (change n d) s e in
+    let a = reserved-admitted s n ((change-ok s n d (ok .1)) .reserved) in
+    let q = thread-same s n (changedThread s d (threadAt s n)) (in-threads s (facts s (ok .0)) n a) in (
+      ap (λ (t : Thread). t .reservation) q,
+      ap (λ (t : Thread). t .anchor) q,
+      ap (λ (t : Thread). t .since) q,
+      ap (λ (t : Thread). t .status) q,
+      ap (λ (t : Thread). t .group) q,
+      ap (λ (t : Thread). t .admission) q,
+      ap (λ (t : Thread). t .ticks) q,
+    )
+
+-- so that its share goes on.
+pub change-share : (n d : ℕ) (s : Scheduler) → refusal (change n d) s ≡ 0
+    → shareOf ((effect (change n d) s) .meter) (threadAt (effect (change n d) s) n) ≡ shareOf (s .meter) (threadAt s n)
+unfolding effect withThread changedThread shareOf
+change-share n d s e =
+    let ok = passes (change n d) s e in
+    let a = reserved-admitted s n ((change-ok s n d (ok .1)) .reserved) in
+    rw (thread-same s n (changedThread s d (threadAt s n)) (in-threads s (facts s (ok .0)) n a))

@@ -3,3 +3,4 @@ pub mod Step
 pub mod Keep
 pub mod Stretch
 pub mod Growth
+pub mod Unchanged

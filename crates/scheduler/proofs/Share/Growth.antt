@@ -1,8 +1,8 @@
 -- The sums of a stretch are what they seem: W is the meter's growth, S the growth of the thread's own ticks while it stays admitted, and
--- overruns are 0 where the overrun limit is; and so is `Unchanged`. Each goes by induction over the list of calls.
+-- overruns are 0 where the overrun limit is. Each goes by induction over the list of calls.
 use Prim.Native.Nat.{ℕ, _+_, _-_}
-use mathlib.Core.Path.{_≡_, refl, sym, ap, subst, _∙_}
-use mathlib.Core.List.{List, [], _∷_, _++_}
+use mathlib.Core.Path.{_≡_, refl, ap, _∙_}
+use mathlib.Core.List.{List, [], _∷_}
 use mathlib.Core.Bool.{Bool, true, false, cond}
 use native.Mathlib.Omega.{arith}
 use lib.Dec.{T, eqb}
@@ -10,12 +10,12 @@ use borrow.Author.Tests.{eqb-true}
 use Rattle.base.proofs.Bools.{by, and-l, and-r}
 use Rattle.scheduler.specs.declared.Settings.{Settings}
 use Rattle.scheduler.specs.declared.Scheduler.{Scheduler}
-use Rattle.scheduler.specs.State.{threadAt, admittedAt, reservationAt, sliceAt, usedMost}
+use Rattle.scheduler.specs.State.{threadAt, admittedAt, sliceAt, usedMost}
 use Rattle.scheduler.specs.Refusals.{Call, openGroup, closeGroup, admit, remove, wake, dispatch, report, change, refusal}
 use Rattle.scheduler.specs.Effects.{chosen, effect}
 use Rattle.scheduler.specs.Rule.{Reply, isDispatch, accept, refuse, step}
 use Rattle.scheduler.specs.Stretch.{Event, trace, final, accepted, ticksOf, overrunOf, named, sumIn, ticksIn, overrunsIn, anyone}
-use Rattle.scheduler.specs.Stretch.{allTicks, ticksBy, throughout, keepsAdmitted, retains, Unchanged, Present}
+use Rattle.scheduler.specs.Stretch.{allTicks, ticksBy, throughout, keepsAdmitted, Present}
 use Rattle.scheduler.proofs.Facts.{reserved-admitted}
 use Rattle.scheduler.proofs.Passed.{passes, report-passed}
 use Rattle.scheduler.proofs.Steps.{meter-step}
@@ -71,46 +71,6 @@ pub own-growth : (s : Scheduler) (cs : List Call) (y : ℕ) → Present s cs y
     → (threadAt s y) .ticks + ticksBy y (s .running) (trace s cs) ≡ (threadAt (final s cs) y) .ticks
 unfolding ticksBy Counts
 own-growth s cs y k = counts y cs s (s .running) (λ _. refl) (reserved-admitted s y (k .reserved)) (k .keeps)
-
--- A reservation that is unchanged is that of the first state at every point of the stretch: after its first calls, whatever follows.
-Steady : (g y last : ℕ) → Scheduler → Scheduler → List Event → Type 0
-Steady g y last s z es =
-    T (admittedAt s y) → reservationAt s y ≡ g → T (throughout (keepsAdmitted y) last es) → T (throughout (retains g y) last es)
-    → reservationAt z y ≡ g
-
-module _ (g y : ℕ) (rest : List Call) where
-  steady-accepted : (last : ℕ) (c : Call) (cs : List Call) (s : Scheduler) → refusal c s ≡ 0 → Attributed last s
-      → ((s : Scheduler) (last : ℕ) → Attributed last s → Steady g y last s (final s cs) (trace s (cs ++ rest)))
-      → Steady g y last s (final (effect c s) cs) (events c (cs ++ rest) s (accept c s))
-  unfolding Steady throughout named accepted accept
-  steady-accepted last c cs s e at ih a q t u =
-      let s′ = effect c s in
-      let es = trace s′ (cs ++ rest) in
-      let last′ = cond (isDispatch c) (cond (isDispatch c) (chosen s) 0) last in
-      let keep = and-l (keepsAdmitted y last c) (throughout (keepsAdmitted y) last′ es) t in
-      let same = and-l (retains g y last c) (throughout (retains g y) last′ es) u in
-      let h = held y last c s e at a keep in
-      ih s′ last′ (running-named c s last at) (h .admitted a)
-      (h .amount (subst (λ (j : ℕ). T (retains j y last c)) (sym q) same) ∙ q)
-      (and-r (keepsAdmitted y last c) (throughout (keepsAdmitted y) last′ es) t)
-      (and-r (retains g y last c) (throughout (retains g y) last′ es) u)
-
-  steady : (cs : List Call) (s : Scheduler) (last : ℕ) → Attributed last s → Steady g y last s (final s cs) (trace s (cs ++ rest))
-  unfolding Steady trace final throughout named accepted step accept refuse
-  steady [] s last at = λ a q t u. q
-  steady (c ∷ cs) s last at =
-      by (λ b. eqb (refusal c s) 0 ≡ b
-      → Steady g y last s (final ((replied c s b) .state) cs) (events c (cs ++ rest) s (replied c s b)))
-      (eqb (refusal c s) 0)
-      (λ q _. steady-accepted last c cs s (eqb-true (refusal c s) 0 q) at (steady cs))
-      (λ q _. rw q (λ a r t u. steady cs s last at a r t u))
-      refl
-
-pub own-reservation : (s : Scheduler) (cs rest : List Call) (y : ℕ) → Present s (cs ++ rest) y → Unchanged s (cs ++ rest) y
-    → reservationAt (final s cs) y ≡ reservationAt s y
-unfolding Steady
-own-reservation s cs rest y k u =
-    steady (reservationAt s y) y rest cs s (s .running) (λ _. refl) (reserved-admitted s y (k .reserved)) refl (k .keeps) u
 
 -- With an overrun limit of 0 an accepted report stays within its slice,
 in-time : (c : Call) (s : Scheduler) → refusal c s ≡ 0 → s .settings .overrun ≡ 0 → ticksOf c - sliceAt s (s .running) ≡ 0

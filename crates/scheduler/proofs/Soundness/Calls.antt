@@ -120,7 +120,8 @@ wake-facts s k n a =
     let t = wokenThread s (threadAt s n) in
     let own = admitted-reserved s n a in
     let q = k .thread n own in
-    entry-facts s k n own t tt (omega arith) (q .in-group) (fit-woken s (threadAt s n) (q .fit)) (account-woken s (threadAt s n) (k .account n a))
+    entry-facts s k n own t tt (omega arith) (q .in-group) (fit-woken s (threadAt s n) (q .fit))
+    (account-woken s (threadAt s n) (k .account n a))
     (λ g o. rw (is (isReserved (threadAt s n)) own) (omega (arith, carries s k g o)))
     (λ ne. runnable-kept s n t (omega (arith, q .small, k .threads64)) tt (s .running) ((k .run ne) .runnable))
 

@@ -71,4 +71,5 @@ change-facts s k n d ok =
     (fit-changed s d (threadAt s n) (ok .positive) (ok .at-most) (m .0) (q .fit))
     (account-changed s d (threadAt s n) (k .account n (reserved-admitted s n (ok .reserved))))
     (change-room s k n d ok)
-    (λ ne. subst (λ (u : Thread). T (isRunnable u)) (sym (thread-other s n t (s .running) (λ z. ok .waits (sym z)))) ((k .run ne) .runnable))
+    (λ ne.
+    subst (λ (u : Thread). T (isRunnable u)) (sym (thread-other s n t (s .running) (λ z. ok .waits (sym z)))) ((k .run ne) .runnable))
