@@ -24,6 +24,7 @@ pub mod kind {
     pub const DISPATCH: u8 = raw::KIND_DISPATCH;
     pub const REPORT: u8 = raw::KIND_REPORT;
     pub const START: u8 = raw::KIND_START;
+    pub const CHANGE: u8 = raw::KIND_CHANGE;
 }
 
 /// Reasons of a report, as a record has them.

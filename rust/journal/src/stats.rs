@@ -1,7 +1,7 @@
 //! A journal in figures: per thread its share, runs, wakes, longest run and
-//! wait and largest lag beside the bound of the share guarantee, and its runs
-//! beyond their slices; refusals by number. As text to read, and as
-//! comma-separated values.
+//! wait and largest lag beside the bound of the share guarantee, its runs
+//! beyond their slices and the changes of its reservation; refusals by number.
+//! As text to read, and as comma-separated values.
 
 use std::fmt::Write;
 
@@ -70,7 +70,7 @@ type Column = (&'static str, bool, fn(u8, &Thread, &Names) -> String);
 const HAS: [Column; 9] = [
     ("thread", true, |n, _, names| names.label(n)),
     ("group", false, |_, t, _| t.group.to_string()),
-    ("reserved", false, |_, t, _| t.reservation.to_string()),
+    ("reserved", false, |_, t, _| t.reserved.last.to_string()),
     ("share", false, |_, t, _| t.share.to_string()),
     ("runs", false, |_, t, _| t.runs.to_string()),
     ("wakes", false, |_, t, _| t.wakes.to_string()),
@@ -113,6 +113,19 @@ const BEYOND: [Column; 5] = [
     }),
 ];
 
+/// Changes of reservations, of the threads that have any.
+const CHANGED: [Column; 5] = [
+    ("thread", true, |n, _, names| names.label(n)),
+    ("changes", false, |_, t, _| t.changes.to_string()),
+    ("last at record", false, |_, t, _| {
+        record(t.changes, t.last_change.map_or(0, |last| last.record))
+    }),
+    ("at time", false, |_, t, _| {
+        ms(t.last_change.map_or(0, |last| last.time))
+    }),
+    ("reservations", true, |_, t, _| t.reserved.told()),
+];
+
 fn record(ticks: u64, number: u64) -> String {
     match ticks {
         0 => "-".into(),
@@ -133,6 +146,12 @@ An overrun is what a run used beyond its slice. The bound has room for what the
 other threads overran since the lag is counted.
 ";
 
+const OTHER: &str = "\
+A change gives a thread another reservation; reserved is the last. From there on
+its lag is counted afresh and has the bound of that reservation. Reservations are
+those of its last life.
+";
+
 impl Figures {
     pub fn tally(&self) -> Tally {
         self.survey.tally
@@ -148,15 +167,28 @@ impl Figures {
         if threads.is_empty() {
             out.push_str("\nNo thread was admitted.\n");
         } else {
+            let changed = |&n: &u8| s.threads[n as usize].changes > 0;
+            let others: Vec<u8> = threads.iter().copied().filter(changed).collect();
             let late = s.overruns() > 0;
-            let tables: [&[Column]; 3] = [&HAS, &MOST, &BEYOND];
-            for columns in &tables[..if late { 3 } else { 2 }] {
-                out.push('\n');
-                self.table(columns, &threads, names, &mut out);
+            let beyond: &[u8] = if late { &threads } else { &[] };
+            let tables: [(&[Column], &[u8]); 4] = [
+                (&HAS, &threads),
+                (&MOST, &threads),
+                (&BEYOND, beyond),
+                (&CHANGED, &others),
+            ];
+            for (columns, threads) in tables {
+                if !threads.is_empty() {
+                    out.push('\n');
+                    self.table(columns, threads, names, &mut out);
+                }
             }
             let _ = write!(out, "\n{LEGEND}");
             if late {
                 out.push_str(LATE);
+            }
+            if !others.is_empty() {
+                out.push_str(OTHER);
             }
         }
         self.groups(&mut out);
@@ -277,7 +309,8 @@ impl Figures {
              longest_wait,longest_wait_at,longest_wait_record,\
              longest_block,longest_block_at,longest_block_record,\
              largest_lag,largest_lag_at,largest_lag_record,bound,at_the_end,\
-             overruns,overrun,longest_overrun,longest_overrun_at,longest_overrun_record\n",
+             overruns,overrun,longest_overrun,longest_overrun_at,longest_overrun_record,\
+             changes,reserved_at_first,last_change_at,last_change_record\n",
         );
         for n in self.survey.admitted() {
             let t = &self.survey.threads[n as usize];
@@ -285,7 +318,7 @@ impl Figures {
             let _ = write!(
                 out,
                 "{n},{name},{},{},{},{},{},{},{},{}",
-                t.group, t.reservation, t.share, t.lives, t.ticks, t.runs, t.wakes, t.refused
+                t.group, t.reserved.last, t.share, t.lives, t.ticks, t.runs, t.wakes, t.refused
             );
             for longest in [t.longest_run, t.longest_wait, t.longest_block] {
                 let _ = write!(out, ",{},{},{}", longest.ticks, longest.at, longest.record);
@@ -301,11 +334,16 @@ impl Figures {
                 became(t.end)
             );
             let o = t.longest_overrun;
-            let _ = writeln!(
+            let _ = write!(
                 out,
                 ",{},{},{},{},{}",
                 t.overruns, t.overrun, o.ticks, o.at, o.record
             );
+            let (at, record) = t
+                .last_change
+                .map_or((0, 0), |last| (last.time, last.record));
+            let first = t.reserved.first;
+            let _ = writeln!(out, ",{},{first},{at},{record}", t.changes);
         }
         out
     }

@@ -22,6 +22,7 @@ pub fn refusal(record: &Record, number: u32, settings: Settings) -> &'static str
         (answer::AMOUNT, kind::OPEN) => "ceiling outside 1 to 1000",
         (answer::AMOUNT, _) => "reservation outside 1 to 1000",
         (answer::ROOM, kind::OPEN) => "more than the parent has free",
+        (answer::ROOM, kind::CHANGE) => "more than the group has free, its own included",
         (answer::ROOM, _) => "more than the group has free",
         (answer::GROUP_IN_USE, _) => "the group has a thread or a child",
         (answer::THREAD, kind::ADMIT) => "number above 63",

@@ -37,6 +37,8 @@ pub struct Load<'a> {
     pub reservations: &'a [u64],
     /// Ticks of work between two waits.
     pub bursts: &'a [u64],
+    /// From when on, in order, which thread reserves how much.
+    pub changes: &'a [(u64, u8, u64)],
 }
 
 /// What a case came to, thread by thread.
@@ -113,6 +115,16 @@ impl<E: Engine> Controller<E> {
         }
     }
 
+    /// Nothing runs.
+    fn change(&mut self, thread: u8, reservation: u64) {
+        self.call(Record {
+            kind: kind::CHANGE,
+            subject: thread,
+            amount: reservation as u16,
+            ..Record::default()
+        });
+    }
+
     fn begin(&mut self, load: &Load) {
         self.call(Record {
             kind: kind::START,
@@ -139,6 +151,7 @@ pub fn play<E: Engine>(server: Server, length: u64) -> Outcome {
         settings: Settings::default(),
         reservations: &RESERVATIONS,
         bursts: &BURSTS,
+        changes: &[],
     };
     let pause = |n| match (n, server) {
         (EXPORTER, Server::Steady) => 0,
@@ -161,7 +174,11 @@ pub fn control<E: Engine>(
     let mut left = load.bursts.to_vec();
     // When a blocked thread is to be woken.
     let mut due: Vec<Option<u64>> = vec![None; left.len()];
+    let mut changes = load.changes.iter().peekable();
     while c.meter < length {
+        while let Some(&(_, n, f)) = changes.next_if(|(at, ..)| *at <= c.meter) {
+            c.change(n, f);
+        }
         let (thread, slice) = c.plain(kind::DISPATCH, 0);
         assert!(thread != NONE);
         let n = thread as usize;

@@ -14,7 +14,7 @@ use journal::track::{Mark, View};
 
 use crate::broken::RefillOnWake;
 use crate::controller::{play, Server, EXPORTER, LENGTH, NAMES, RESERVATIONS};
-use crate::late;
+use crate::{late, raised};
 
 /// A shipped journal.
 #[derive(Clone, Copy, Debug)]
@@ -40,6 +40,9 @@ pub const CASES: [Case; 2] = [
 
 /// Name and title of the journal with a timer that fires late.
 pub const LATE: (&str, &str) = ("late", "A timer that fires up to 90 \u{b5}s late");
+
+/// Name and title of the journal with a method change.
+pub const RAISED: (&str, &str) = ("raised", "Readout raised from 500 to 700 for a method");
 
 /// Title of the picture of the broken rule.
 pub const BROKEN: &str = "The same exporter by a broken rule: every wake fills the allotment";
@@ -87,7 +90,8 @@ pub fn broken_picture() -> String {
 }
 
 fn names() -> String {
-    let mut out = String::from("# Threads of the shipped journals steady, exporter and late.\n");
+    let mut out =
+        String::from("# Threads of the shipped journals steady, exporter, late and raised.\n");
     for (n, name) in NAMES.iter().enumerate() {
         let _ = writeln!(out, "{n} {name}");
     }
@@ -151,6 +155,8 @@ pub fn files() -> Vec<(PathBuf, Vec<u8>)> {
     let latest = late::SETTINGS.overrun.into();
     let journal = late::play::<Proved>(latest, late::LENGTH).journal();
     files.extend(shipped(LATE, &late::RESERVATIONS, &journal, WIDTH));
+    let journal = raised::play::<Proved>(raised::LENGTH).journal();
+    files.extend(shipped(RAISED, &RESERVATIONS, &journal, WIDTH));
     files
 }
 

@@ -31,6 +31,7 @@ pub fn play<E: Engine>(latest: u64, length: u64) -> Outcome {
         settings: SETTINGS,
         reservations: &RESERVATIONS,
         bursts: &BURSTS,
+        changes: &[],
     };
     control::<E>(&load, length, |n| PAUSES[n], || timer.range(0, latest))
 }

@@ -1,6 +1,6 @@
 //! A controller whose exporter sends results to a server, by the rule and by a
-//! broken one, and one whose timer fires late. The page docs/CASES.md shows what
-//! comes of it.
+//! broken one, one whose timer fires late, and one that gives readout more for a
+//! while. The page docs/CASES.md shows what comes of it.
 //!
 //! - Without an argument: the shares, as a table.
 //! - `--broken`: the picture of the broken rule, to standard output.
@@ -13,6 +13,7 @@ mod broken;
 mod controller;
 mod files;
 mod late;
+mod raised;
 mod table;
 
 use std::io::{self, Write};

@@ -80,6 +80,7 @@ Makes blocks of a text with one record a line:
   admit 5 group 0 reservation 500
   remove 5
   wake 5
+  change 5 reservation 700
   dispatch
   report tick 20000      also block, yield and exit, each with the ticks used;
   report reason 200 5    any other reason by its number
@@ -148,13 +149,15 @@ Makes an SVG picture of a journal: who had the core when, a lane a thread, with
 blocked spans, wakes and refusals; below it the lag of each thread with the most
 that the share guarantee lets it be, and the refusals in words. What a run used
 beyond its slice is marked, and while others wait the most of their lags grows by
-it. Where groups were opened, the lanes stand group by group with the ceilings.
-Time is the meter, which moves when a report is accepted. From a damaged or
-missing block to the next accepted start nothing is run; the picture shows that as
-a hatched gap. A journal with many records is thinned out: each pixel column shows
-what part of its time a thread had the core or was blocked, and the least and the
-greatest lag in it. With --from and --to a part of it is drawn span by span. All
-is computed anew from the journal's calls by the proved library.
+it. A change of a reservation is marked with the thousandths before and after it;
+from there on the thread's lag and the most of it begin anew. Where groups were
+opened, the lanes stand group by group with the ceilings. Time is the meter, which
+moves when a report is accepted. From a damaged or missing block to the next
+accepted start nothing is run; the picture shows that as a hatched gap. A journal
+with many records is thinned out: each pixel column shows what part of its time a
+thread had the core or was blocked, and the least and the greatest lag in it. With
+--from and --to a part of it is drawn span by span. All is computed anew from the
+journal's calls by the proved library.
 
 Options:
   --title TEXT        the picture's title; else the name of FILE
@@ -170,9 +173,9 @@ Usage: journal stats [OPTION].. [FILE]
 
 Tells of each thread its share, runs and wakes, its longest run and wait and its
 largest lag with the records that they begin with, the most that the share
-guarantee lets the lag be there, and what its runs used beyond their slices; then
-the refusals by number, in words. All is computed anew from the journal's calls by
-the proved library.
+guarantee lets the lag be there, what its runs used beyond their slices and the
+changes of its reservation; then the refusals by number, in words. All is computed
+anew from the journal's calls by the proved library.
 
 Options:
   --csv               comma-separated values, a thread a line; times in ticks of

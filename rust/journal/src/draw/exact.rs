@@ -5,8 +5,9 @@ use std::fmt::Write;
 use crate::codec::THREADS;
 use crate::names::Names;
 use crate::scale::exact;
-use crate::track::{At, Life, Limit, Overrun, Refused, Sink, Span, What};
+use crate::track::{At, Change, Life, Limit, Overrun, Refused, Sink, Span, What};
 
+use super::changes::Marks;
 use super::layout::{Lane, Layout, Panel};
 use super::svg::{escape, C};
 
@@ -27,6 +28,8 @@ pub struct Shapes {
     /// Ends of the lag's line and of the bound's so far.
     last: Option<(At, i64)>,
     last_bound: Option<(At, i64)>,
+    /// A bound without length, which counts if no other lasts in its life.
+    touched: Option<Limit>,
 }
 
 /// Refusals at the same pixel.
@@ -43,6 +46,7 @@ pub struct Exact<'a> {
     lanes: [Option<Lane>; THREADS],
     panels: [Option<Panel>; THREADS],
     pub shapes: Vec<Shapes>,
+    pub changes: Marks,
     pub crosses: Vec<Cross>,
     pub starts: Vec<f64>,
     /// Whether wakes have room for a triangle each.
@@ -67,6 +71,7 @@ impl<'a> Exact<'a> {
             lanes,
             panels,
             shapes: vec![Shapes::default(); THREADS],
+            changes: Marks::new(),
             crosses: Vec::new(),
             starts: Vec::new(),
             roomy,
@@ -181,9 +186,11 @@ impl Sink for Exact<'_> {
         let (bound, last) = (limit.bound, limit.last_bound());
         let (y0, y1) = (panel.y(bound as f64), panel.y(last as f64));
         let shapes = &mut self.shapes[n];
-        // What a part touches at its edge alone is no part of the line.
-        let empty = limit.from == limit.end();
-        let _ = match shapes.last_bound.filter(|_| !empty) {
+        if limit.is_empty() {
+            shapes.touched = Some(*limit);
+            return;
+        }
+        let _ = match shapes.last_bound {
             Some(end) if end == (limit.from, bound) => Ok(()),
             Some((at, _)) if at == limit.from => write!(shapes.bound, "V{}", C(y0)),
             _ => write!(shapes.bound, "M{} {}", C(x0), C(y0)),
@@ -192,13 +199,23 @@ impl Sink for Exact<'_> {
             0 => write!(shapes.bound, "H{}", C(x1)),
             _ => write!(shapes.bound, "L{} {}", C(x1), C(y1)),
         };
-        shapes.last_bound = (!empty).then_some((limit.end(), last));
+        shapes.last_bound = Some((limit.end(), last));
     }
 
     fn life(&mut self, life: &Life) {
+        let n = life.thread as usize;
+        let shapes = &mut self.shapes[n];
+        let touched = shapes.touched.take();
+        if let (Some(limit), Some(panel), None) = (touched, self.panels[n], shapes.last_bound) {
+            let (x, y) = (self.layout.x(limit.from), panel.y(limit.bound as f64));
+            let _ = write!(shapes.bound, "M{} {}H{}", C(x), C(y), C(x));
+        }
         // A new life does not go on with the lines of the last.
-        let shapes = &mut self.shapes[life.thread as usize];
         (shapes.last, shapes.last_bound) = (None, None);
+    }
+
+    fn change(&mut self, c: &Change) {
+        self.changes.add(self.layout.x(c.at), c);
     }
 
     fn wake(&mut self, thread: u8, at: At, _: u64) {

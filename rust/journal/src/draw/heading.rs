@@ -4,6 +4,7 @@
 use crate::scale::{count, counted, duration, exact, settings};
 use crate::track::Survey;
 
+use super::changes::{self, tip};
 use super::picture::{cross, Picture};
 use super::svg::{escape, fit, width, wrap, Anchor, C};
 use super::{Detail, Options};
@@ -50,6 +51,7 @@ enum Sign {
     Blocked,
     Wait,
     Wake,
+    Change,
     Refusal,
     Gap,
     /// Words alone, on heights that are enlarged.
@@ -60,7 +62,7 @@ impl Sign {
     /// Width of its shape.
     fn wide(self) -> f64 {
         match self {
-            Sign::Wake | Sign::Refusal => 10.0,
+            Sign::Wake | Sign::Change | Sign::Refusal => 10.0,
             Sign::Heights => 0.0,
             _ => 18.0,
         }
@@ -75,6 +77,8 @@ impl Sign {
             (Sign::Wait, _) => "runnable, waits".into(),
             (Sign::Wake, false) => "wake".into(),
             (Sign::Wake, true) => "wakes".into(),
+            (Sign::Change, false) => "change of reservation".into(),
+            (Sign::Change, true) => "changes of reservation".into(),
             (Sign::Refusal, false) => "refusal, with its number (words below)".into(),
             (Sign::Refusal, true) => "refusals (words below)".into(),
             (Sign::Gap, _) => match s.gaps.iter().any(|gap| gap.refusal.is_none()) {
@@ -173,6 +177,10 @@ fn facts(s: &Survey, part: bool) -> Vec<String> {
     if s.overruns() > 0 {
         facts.push(counted(s.overruns(), "overrun"));
     }
+    if s.changes() > 0 {
+        let changes = counted(s.changes(), "change");
+        facts.push(format!("{changes} of reservation"));
+    }
     if s.refused() > 0 {
         facts.push(counted(s.refused(), "refusal"));
     }
@@ -197,6 +205,9 @@ fn signs(s: &Survey, thin: bool) -> Vec<Sign> {
     }
     if s.threads.iter().any(|t| t.wakes > 0) {
         signs.push(Sign::Wake);
+    }
+    if s.changes() > 0 {
+        signs.push(Sign::Change);
     }
     if !s.refusals.is_empty() {
         signs.push(Sign::Refusal);
@@ -227,7 +238,12 @@ impl Picture<'_> {
         self.svg
             .put(format_args!("<desc>{}</desc>", escape(&facts)));
         let late = if self.survey.overruns() > 0 { LATE } else { "" };
-        self.svg.put(format_args!("<style>\n{STYLE}{late}</style>"));
+        let changes = match self.survey.changes() {
+            0 => "",
+            _ => changes::STYLE,
+        };
+        self.svg
+            .put(format_args!("<style>\n{STYLE}{late}{changes}</style>"));
         self.svg.put(format_args!(
             "<defs><pattern id=\"damage\" width=\"7\" height=\"7\" patternUnits=\"userSpaceOnUse\" patternTransform=\"rotate(45)\"><rect width=\"7\" height=\"7\" fill=\"#fbf1f7\"/><path class=\"damage\" d=\"M1 0V7\"/></pattern></defs>"
         ));
@@ -266,6 +282,7 @@ impl Picture<'_> {
                     };
                     svg.path("wake", &format!("M{} {}{shape}", C(x + 5.0), C(y - 7.5)));
                 }
+                Sign::Change => svg.path("change", &tip(x + 5.0, y)),
                 Sign::Refusal => svg.path("refusal", &cross(x + 5.0, y - 4.0)),
                 Sign::Gap => svg.rect("gap", x, y - 10.0, 18.0, 12.0),
                 Sign::Heights => {}

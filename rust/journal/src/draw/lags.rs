@@ -14,6 +14,7 @@ impl Picture<'_> {
         for panel in &self.layout.panels {
             let shapes = &exact.shapes[panel.thread as usize];
             self.panel_frame(panel);
+            self.panel_changes(panel, exact.changes.of(panel.thread));
             self.svg.path("bound", &shapes.bound);
             self.svg.path("lag", &shapes.lag);
         }
@@ -23,6 +24,7 @@ impl Picture<'_> {
         let left = self.layout.left;
         for panel in &self.layout.panels {
             self.panel_frame(panel);
+            self.panel_changes(panel, thin.changes.of(panel.thread));
             if let Some(columns) = &thin.threads[panel.thread as usize] {
                 self.svg
                     .path("lags", &thin::lag_lines(columns, panel, left));
@@ -65,8 +67,13 @@ impl Picture<'_> {
             true => (" + fV", ", V others' overruns"),
             false => ("", ""),
         };
+        let changing = match self.survey.changes() {
+            0 => "",
+            _ => ", f as reserved at the time",
+        };
         let formula = format!(
-            "most by the share guarantee, (2f(1000 \u{2212} f)m + fP{overruns}) / 1000{meaning}"
+            "most by the share guarantee, \
+             (2f(1000 \u{2212} f)m + fP{overruns}) / 1000{meaning}{changing}"
         );
         let room = l.right - x - 32.0;
         let text = [

@@ -29,6 +29,7 @@ impl Picture<'_> {
                 }
             }
             self.svg.path("wake", &shapes.wakes);
+            self.lane_changes(lane, exact.changes.of(lane.thread));
             self.still_running(lane);
         }
         if let Some(top) = l.refusals {
@@ -102,6 +103,7 @@ impl Picture<'_> {
             let base = bottom + 1.0 + height;
             self.svg
                 .path("wake", &thin::bars(wakes, l.left, base, height));
+            self.lane_changes(lane, thin.changes.of(lane.thread));
             self.still_running(lane);
         }
         if let Some(top) = l.refusals {
@@ -209,7 +211,7 @@ impl Picture<'_> {
         let told = names.told(lane.thread);
         let mut title = format!(
             "{told}: reservation {} \u{2030} in group {}, {}, {}",
-            t.reservation,
+            t.reserved.told(),
             t.group,
             counted(t.runs, "dispatch").replace("dispatchs", "dispatches"),
             counted(t.wakes, "wake")
@@ -218,8 +220,11 @@ impl Picture<'_> {
             let overruns = counted(t.overruns, "overrun");
             let _ = write!(title, ", {overruns} of {}", exact(t.overrun));
         }
+        if t.changes > 0 {
+            let _ = write!(title, ", {}", counted(t.changes, "change"));
+        }
         self.svg.titled(lane.label, y, "name", &name, &title);
-        let reserved = format!("{} \u{2030}", t.reservation);
+        let reserved = l.reserved(t);
         let x = l.left - 10.0;
         self.svg.text(x, y, Anchor::End, "quiet", &reserved);
 

@@ -2,9 +2,9 @@
 
 use crate::codec::GROUPS;
 use crate::names::Names;
-use crate::track::{At, End, Survey};
+use crate::track::{At, End, Survey, Thread};
 
-use super::svg::{bold, wrap};
+use super::svg::{bold, width as wide, wrap};
 
 /// Widths that a picture may have, and the one it has.
 pub const WIDTHS: (u32, u32) = (360, 4000);
@@ -97,6 +97,10 @@ pub struct Layout {
     pub left: f64,
     pub right: f64,
     pub plot: f64,
+    /// What a lane's reservation takes beside its name, and whether it is told as
+    /// it changed.
+    reserved: f64,
+    told: bool,
     /// Lines of labels above the lanes, for starts and damaged blocks.
     pub flags: f64,
     pub groups: Vec<Heading>,
@@ -122,15 +126,19 @@ pub struct Layout {
     pub height: f64,
 }
 
+/// Above the bar of a lane with changes of its reservation.
+const CHANGES: f64 = 13.0;
 /// Height of the refusals' lane.
 pub const REFUSALS: f64 = 30.0;
 /// Between two lag plots.
 const PANELS: f64 = 26.0;
 /// From the lanes' lower edge to the end of the axis below it.
 const AXIS: f64 = 42.0;
-/// Over the lag plots.
-const LAGS: &str =
-    "Lag: processor time owed to a thread since its admission, last wake or yield; below 0 it is ahead";
+/// Over the lag plots, also where reservations change.
+const LAGS: [&str; 2] = [
+    "Lag: processor time owed to a thread since its admission, last wake or yield; below 0 it is ahead",
+    "Lag: processor time owed to a thread since its admission, last wake, yield or change; below 0 it is ahead",
+];
 /// Height of a group's line.
 const GROUP: f64 = 22.0;
 /// Height of a line of words about refusals, and the most of them.
@@ -191,7 +199,11 @@ impl Layout {
     pub fn new(survey: &Survey, names: &Names, width: f64, head: f64, says: &str) -> Layout {
         let rows = rows(survey);
         let threads: Vec<u8> = survey.admitted().collect();
-        let left = left(&rows, &threads, names, width);
+        let labels = labels(&rows, &threads, names);
+        let (reserved, told) = reserved(survey, &threads, most(width) - MARGIN - labels);
+        let left = (MARGIN + labels + reserved)
+            .clamp(LEFT.0, most(width))
+            .round();
         let words = threads.iter().any(|&n| {
             let end = survey.threads[n as usize].end;
             matches!(end, Some(End::Left(_) | End::Restarted(_) | End::Lost))
@@ -210,7 +222,7 @@ impl Layout {
             true => head + 24.0,
             false => head + 42.0,
         };
-        let (groups, lanes, mut y) = stack(&rows, flags + 26.0, pitch, bar);
+        let (groups, lanes, mut y) = stack(&rows, survey, flags + 26.0, pitch, bar);
         if threads.is_empty() {
             // Room for a line that says so.
             y += pitch;
@@ -221,17 +233,11 @@ impl Layout {
         }
         let axis = y;
         let heading = axis + AXIS + 34.0;
-        let headings = wrap(LAGS, 14.0, width - 32.0);
+        let heads = LAGS[usize::from(survey.changes() > 0)];
+        let headings = wrap(heads, 14.0, width - 32.0);
         let legend = heading + 20.0 * headings.len() as f64;
-        let mut y = legend + 14.0;
-        let mut panels = Vec::new();
-        for lane in &lanes {
-            let t = &survey.threads[lane.thread as usize];
-            let largest = t.bound.max(t.largest.lag);
-            panels.push(Panel::new(lane.thread, y, panel, largest, t.lowest));
-            y += panel + PANELS;
-        }
-        let floor = y - PANELS + 12.0;
+        let (panels, end) = panels(survey, &lanes, legend + 14.0, panel);
+        let floor = end - PANELS + 12.0;
         let plots = if threads.is_empty() { axis } else { floor };
         let key = plots + AXIS + 30.0;
         let words = match survey.refusals.len().min(MOST_WORDS) {
@@ -248,6 +254,8 @@ impl Layout {
             left,
             right,
             plot,
+            reserved,
+            told,
             flags,
             groups,
             lanes,
@@ -279,20 +287,66 @@ impl Layout {
 
     /// Room for a name that begins at x.
     pub fn room(&self, x: f64) -> f64 {
-        self.left - RESERVED - x + 4.0
+        self.left - self.reserved - x + 4.0
+    }
+
+    /// What a lane says that its thread reserves.
+    pub fn reserved(&self, t: &Thread) -> String {
+        said(t, self.told)
     }
 }
 
-/// Where the plots begin, right of the names as far as these have room.
-fn left(rows: &[Row], threads: &[u8], names: &Names, width: f64) -> f64 {
+/// What a thread reserves: as it changed, or the last with an arrow before it.
+fn said(t: &Thread, told: bool) -> String {
+    match told || t.reserved.changes == 0 {
+        true => format!("{} \u{2030}", t.reserved.told()),
+        false => format!("\u{2192} {} \u{2030}", t.reserved.last),
+    }
+}
+
+/// The width for what the threads reserve, and whether there is room to tell how
+/// it changed.
+fn reserved(survey: &Survey, threads: &[u8], room: f64) -> (f64, bool) {
+    let width = |told: bool| {
+        let threads = threads.iter().map(|&n| &survey.threads[n as usize]);
+        let changed = threads.filter(|t| t.reserved.changes > 0);
+        let widths = changed.map(|t| wide(&said(t, told), 12.0) + 16.0);
+        widths.fold(RESERVED, f64::max)
+    };
+    match width(true) <= room {
+        true => (width(true), true),
+        false => (width(false), false),
+    }
+}
+
+/// Puts the lag plots below each other, and answers where the next would begin.
+/// Where a bound changes its plot is higher, since the steps may be small.
+fn panels(survey: &Survey, lanes: &[Lane], top: f64, height: f64) -> (Vec<Panel>, f64) {
+    let mut y = top;
+    let mut panels = Vec::new();
+    for lane in lanes {
+        let t = &survey.threads[lane.thread as usize];
+        let largest = t.bound.max(t.largest.lag);
+        let height = height * if t.changes > 0 { 1.5 } else { 1.0 };
+        panels.push(Panel::new(lane.thread, y, height, largest, t.lowest));
+        y += height + PANELS;
+    }
+    (panels, y)
+}
+
+/// Where the plots begin at the most.
+fn most(width: f64) -> f64 {
+    (LEFT.1 * width).min(330.0)
+}
+
+/// What the names take.
+fn labels(rows: &[Row], threads: &[u8], names: &Names) -> f64 {
     let longest = threads.iter().map(|&n| bold(&names.label(n), 12.0));
     let deepest = rows.iter().map(|row| match row {
         Row::Group { depth, .. } => (depth + 1) as f64 * INDENT,
         Row::Thread { .. } => 0.0,
     });
-    let labels = longest.fold(0.0, f64::max) + deepest.fold(0.0, f64::max);
-    let most = (LEFT.1 * width).min(330.0);
-    (MARGIN + labels + RESERVED).clamp(LEFT.0, most).round()
+    longest.fold(0.0, f64::max) + deepest.fold(0.0, f64::max)
 }
 
 /// Widths of a gap and of a tick.
@@ -310,7 +364,13 @@ fn scale(survey: &Survey, plot: f64) -> (f64, f64) {
 }
 
 /// Puts the rows below each other, and answers where they end.
-fn stack(rows: &[Row], top: f64, pitch: f64, bar: f64) -> (Vec<Heading>, Vec<Lane>, f64) {
+fn stack(
+    rows: &[Row],
+    survey: &Survey,
+    top: f64,
+    pitch: f64,
+    bar: f64,
+) -> (Vec<Heading>, Vec<Lane>, f64) {
     let mut y = top;
     let (mut groups, mut lanes): (Vec<Heading>, Vec<Lane>) = (Vec::new(), Vec::new());
     for row in rows {
@@ -326,6 +386,9 @@ fn stack(rows: &[Row], top: f64, pitch: f64, bar: f64) -> (Vec<Heading>, Vec<Lan
             }
             Row::Thread { thread, depth } => {
                 let inside = if groups.is_empty() { 0 } else { depth + 1 };
+                if survey.threads[thread as usize].changes > 0 {
+                    y += CHANGES;
+                }
                 lanes.push(Lane {
                     thread,
                     top: y,

@@ -7,6 +7,7 @@
 //! it. So the size of the picture does not grow with the journal.
 
 mod axis;
+mod changes;
 mod exact;
 mod heading;
 mod key;
@@ -52,12 +53,13 @@ impl Default for Options {
     }
 }
 
-/// Drawn span by span, in the usual width, up to so many spans, wakes, overruns
-/// or rises of its bound a thread, refusals, starts or gaps, and up to so many
-/// spans and rises in all.
+/// Drawn span by span, in the usual width, up to so many spans, wakes, overruns,
+/// changes or rises of its bound a thread, refusals, starts or gaps, and up to
+/// so many spans and rises in all.
 const FEW: u64 = 400;
 const FEW_IN_ALL: u64 = 4000;
-/// Up to so many spans and overruns in all each says what it is when pointed at.
+/// Up to so many spans and overruns in all each says what it is when pointed at;
+/// so do up to so many changes.
 const FEW_TITLES: u64 = 400;
 /// A wake has a triangle where the thread's have so many pixels each.
 const WAKE: u64 = 10;
@@ -114,7 +116,8 @@ impl Detail {
         let rises: u64 = s.threads.iter().map(|t| t.rises).sum();
         let marks = s.refused().max(s.starts).max(s.gaps.len() as u64);
         let few = FEW * u64::from(width) / u64::from(WIDTH);
-        let crowded = most(|t| t.spans.max(t.wakes).max(t.overruns).max(t.rises)) > Some(few);
+        let marked = |t: &Thread| t.wakes.max(t.overruns).max(t.changes);
+        let crowded = most(|t| t.spans.max(t.rises)).max(most(marked)) > Some(few);
         if crowded || spans + rises > FEW_IN_ALL || marks > few {
             return Detail::Thin;
         }

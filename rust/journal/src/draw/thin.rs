@@ -5,8 +5,9 @@
 use std::fmt::Write;
 
 use crate::codec::THREADS;
-use crate::track::{At, Life, Limit, Overrun, Refused, Sink, Span, What};
+use crate::track::{At, Change, Life, Limit, Overrun, Refused, Sink, Span, What};
 
+use super::changes::Marks;
 use super::layout::{Layout, Panel};
 use super::svg::C;
 
@@ -21,9 +22,14 @@ pub struct Columns {
     pub wakes: Vec<u32>,
     /// Least and greatest lag, the first above the second where there is none.
     pub lags: Vec<(f64, f64)>,
-    /// Largest bound, 0 where there is none, and whether it rises anywhere.
+    /// Largest bound, 0 where there is none, and whether it rises or changes
+    /// anywhere.
     pub bound: Vec<f64>,
-    rises: bool,
+    steps: bool,
+    /// In the present life: a bound without length, which counts if no other
+    /// lasts.
+    touched: Option<(usize, f64)>,
+    lasts: bool,
 }
 
 impl Columns {
@@ -36,7 +42,9 @@ impl Columns {
             wakes: vec![0; columns],
             lags: vec![(f64::INFINITY, f64::NEG_INFINITY); columns],
             bound: vec![0.0; columns],
-            rises: false,
+            steps: false,
+            touched: None,
+            lasts: false,
         }
     }
 }
@@ -64,6 +72,7 @@ fn cover(layout: &Layout, columns: &mut [f32], x0: f64, x1: f64) {
 pub struct Thin<'a> {
     layout: &'a Layout,
     pub threads: Vec<Option<Box<Columns>>>,
+    pub changes: Marks,
     pub refusals: Vec<u32>,
     pub starts: Vec<bool>,
 }
@@ -73,6 +82,7 @@ impl<'a> Thin<'a> {
         Thin {
             layout,
             threads: vec![None; THREADS],
+            changes: Marks::new(),
             refusals: vec![0; layout.columns()],
             starts: vec![false; layout.columns()],
         }
@@ -136,7 +146,12 @@ impl Sink for Thin<'_> {
         };
         let layout = self.layout;
         let (x0, x1) = (layout.x(life.from), layout.x(to));
-        cover(layout, &mut self.columns(life.thread).here, x0, x1);
+        let columns = self.columns(life.thread);
+        cover(layout, &mut columns.here, x0, x1);
+        let lasts = std::mem::take(&mut columns.lasts);
+        if let Some((c, bound)) = columns.touched.take().filter(|_| !lasts) {
+            columns.bound[c] = columns.bound[c].max(bound);
+        }
     }
 
     fn overrun(&mut self, o: &Overrun) {
@@ -150,7 +165,12 @@ impl Sink for Thin<'_> {
         let (x0, x1) = (layout.x(limit.from), layout.x(limit.end()));
         let (bound, last) = (limit.bound as f64, limit.last_bound() as f64);
         let columns = self.columns(limit.thread);
-        columns.rises |= limit.slope > 0;
+        if limit.is_empty() {
+            columns.touched = Some((column(layout, x0), bound));
+            return;
+        }
+        columns.lasts = true;
+        columns.steps |= limit.slope > 0;
         for (c, _, to) in parts(layout, x0, x1) {
             // It is largest where it ends.
             let here = match to < x1 {
@@ -159,6 +179,13 @@ impl Sink for Thin<'_> {
             };
             columns.bound[c] = columns.bound[c].max(here);
         }
+    }
+
+    fn change(&mut self, c: &Change) {
+        let column = column(self.layout, self.layout.x(c.at));
+        self.columns(c.thread).steps = true;
+        let x = self.layout.left + column as f64 + 0.5;
+        self.changes.add(x, c);
     }
 
     fn wake(&mut self, thread: u8, at: At, _: u64) {
@@ -227,7 +254,7 @@ pub fn lag_lines(columns: &Columns, panel: &Panel, left: f64) -> String {
     path
 }
 
-/// The bound over the columns. One that rises is a line with steps.
+/// The bound over the columns. One that rises or changes is a line with steps.
 pub fn bound_line(columns: &Columns, panel: &Panel, left: f64) -> String {
     let mut path = String::new();
     let mut level = 0.0;
@@ -240,7 +267,7 @@ pub fn bound_line(columns: &Columns, panel: &Panel, left: f64) -> String {
             let _ = write!(path, "H{x}");
         }
         let _ = match bound > 0.0 {
-            true if columns.rises && level > 0.0 => write!(path, "V{y}"),
+            true if columns.steps && level > 0.0 => write!(path, "V{y}"),
             true => write!(path, "M{x} {y}"),
             false => Ok(()),
         };

@@ -222,8 +222,8 @@ impl Encoder {
                 Err(NOT_TEXT.into())
             }
             None => Err(format!(
-                "{} begins no line: start, open, close, admit, remove, wake, dispatch, report, \
-                 block, damaged or hex does",
+                "{} begins no line: start, open, close, admit, remove, wake, change, dispatch, \
+                 report, block, damaged or hex does",
                 shown(word)
             )),
         }

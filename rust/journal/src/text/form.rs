@@ -89,7 +89,7 @@ const fn or_none(word: &'static str, of: Of) -> Field {
 }
 
 /// Every kind but the report, whose reason is a word of its own.
-static FORMS: [Form; 7] = [
+static FORMS: [Form; 8] = [
     Form {
         kind: kind::START,
         word: "start",
@@ -131,6 +131,11 @@ static FORMS: [Form; 7] = [
         kind: kind::WAKE,
         word: "wake",
         fields: &[first("thread")],
+    },
+    Form {
+        kind: kind::CHANGE,
+        word: "change",
+        fields: &[first("thread"), named("reservation", Of::Amount)],
     },
     Form {
         kind: kind::DISPATCH,

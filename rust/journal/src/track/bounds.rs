@@ -26,19 +26,24 @@ impl<S: Sink> Tracker<'_, S> {
                 to,
                 bound: alive.bound,
                 slope: 0,
+                bare: alive.bare,
             });
         }
         alive.level = to;
     }
 
-    /// From here on no overrun counts for the bound of the thread's lag.
+    /// From here on no overrun before counts for the bound of the thread's lag,
+    /// and its present reservation does.
     pub(super) fn unbind(&mut self, n: usize) {
         let Some(alive) = self.alive[n] else { return };
         let bare = bound(alive.reservation, alive.settings);
-        if alive.bound != bare {
-            self.level(n, self.at.time);
+        if (alive.bound, alive.bare) != (bare, bare) {
+            if alive.level < self.at.time {
+                self.level(n, self.at.time);
+            }
             self.alive[n] = Some(Alive {
                 bound: bare,
+                bare,
                 level: self.at.time,
                 ..alive
             });
@@ -75,6 +80,7 @@ impl<S: Sink> Tracker<'_, S> {
                 to,
                 bound: alive.bound,
                 slope: alive.reservation as i64,
+                bare: alive.bare,
             };
             self.sink.limit(&rising);
             (alive.bound, alive.level) = (rising.last_bound(), to);

@@ -1,8 +1,11 @@
 //! The part of a journal that is looked at, cut out of the whole.
 
 use crate::codec::THREADS;
+use crate::engine::bound;
 
-use super::sink::{At, End, Gap, Life, Limit, Moment, Overrun, Refused, Sink, Span, What};
+use super::sink::{
+    At, Begun, Change, End, Gap, Life, Limit, Moment, Overrun, Refused, Sink, Span, What,
+};
 
 /// The part of a journal that is looked at.
 #[derive(Clone, Copy, Debug)]
@@ -39,6 +42,11 @@ impl Window {
         (self.from..=self.to).contains(&at) && (self.records.0..=self.records.1).contains(&record)
     }
 
+    /// It has ended before a record at a time.
+    fn ended(&self, at: At, record: u64) -> bool {
+        at > self.to || (at == self.to && record > self.records.1)
+    }
+
     /// The part of a stretch of time that lies in it.
     fn part(&self, from: u64, to: u64) -> (u64, u64) {
         (from.max(self.from.time), to.min(self.to.time))
@@ -60,6 +68,8 @@ pub struct Clip<'a, S: Sink> {
     sink: &'a mut S,
     /// Ticks of all overruns before the window and up to its end.
     overruns: (u64, u64),
+    /// What a thread reserves at the window's end if it is changed after it.
+    reserved: [Option<u64>; THREADS],
 }
 
 impl<'a, S: Sink> Clip<'a, S> {
@@ -68,6 +78,7 @@ impl<'a, S: Sink> Clip<'a, S> {
             window,
             sink,
             overruns: (0, 0),
+            reserved: [None; THREADS],
         }
     }
 }
@@ -114,6 +125,10 @@ impl<S: Sink> Sink for Clip<'_, S> {
                 part.bound = span.bound_after(self.overruns.0);
                 part.overruns = self.overruns.0;
             }
+            part.begun = Begun {
+                time: span.begun.time.max(self.window.from.time),
+                ..span.begun
+            };
             if to < span.to {
                 part.last_bound = span.bound_after(self.overruns.1);
             }
@@ -163,11 +178,24 @@ impl<S: Sink> Sink for Clip<'_, S> {
         }
     }
 
+    fn change(&mut self, c: &Change) {
+        if self.window.shows(c.thread) && self.window.holds(c.at, c.record) {
+            self.sink.change(c);
+        }
+        if self.window.ended(c.at, c.record) {
+            self.reserved[c.thread as usize].get_or_insert(c.old);
+        }
+    }
+
     fn life(&mut self, life: &Life) {
+        let reserved = self.reserved[life.thread as usize].take();
+        let reservation = reserved.unwrap_or(life.reservation);
         if let Some((from, to)) = self.window.lived(life.thread, life.from, life.to) {
             self.sink.life(&Life {
                 from,
                 to,
+                reservation,
+                bound: bound(reservation, life.settings),
                 end: match life.to > self.window.to.time {
                     true => End::Later,
                     false => life.end,

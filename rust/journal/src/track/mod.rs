@@ -8,9 +8,11 @@
 //!
 //! The bound of the share guarantee goes with the lag: level, but for the time
 //! that another thread runs beyond its slice while this one waits, in which both
-//! grow by f per tick.
+//! grow by f per tick. A change of a thread's reservation parts its spans: from
+//! there its lag begins at 0, with the slope and the bound of the new one.
 
 mod bounds;
+mod changes;
 mod clip;
 mod sink;
 mod survey;
@@ -28,8 +30,10 @@ use crate::progress::Progress;
 use crate::words;
 
 pub use clip::{Clip, Window};
-pub use sink::{At, End, Gap, Life, Limit, Moment, Overrun, Refused, Sink, Span, What};
-pub use survey::{Greatest, Group, Longest, Refusals, Survey, Thread};
+pub use sink::{
+    At, Begun, Change, End, Gap, Life, Limit, Moment, Overrun, Refused, Sink, Span, What,
+};
+pub use survey::{Greatest, Group, Longest, Refusals, Reserved, Survey, Thread};
 pub use view::{Mark, View};
 
 #[derive(Clone, Copy)]
@@ -41,6 +45,7 @@ struct Piece {
     /// Ticks of all overruns before it.
     overruns: u64,
     record: u64,
+    begun: Begun,
 }
 
 #[derive(Clone, Copy)]
@@ -49,12 +54,28 @@ struct Alive {
     reservation: u64,
     group: u8,
     settings: Settings,
-    /// The bound of its lag, and since when it is level.
+    /// The bound of its lag, what it is without overruns, and since when it is
+    /// level.
     bound: i64,
+    bare: i64,
     level: u64,
     piece: Piece,
     /// A span not handed out yet: what follows may prolong it.
     held: Option<Span>,
+    /// When a change last parted what the thread does, and nothing else did.
+    parted: Option<u64>,
+}
+
+impl Alive {
+    /// Growth of the lag per tick while it does something.
+    fn slope(&self, what: What) -> i64 {
+        let f = self.reservation as i64;
+        match what {
+            What::Run => f - 1000,
+            What::Wait => f,
+            What::Blocked => 0,
+        }
+    }
 }
 
 struct Tracker<'s, S: Sink> {
@@ -87,7 +108,6 @@ impl<S: Sink> Tracker<'_, S> {
         if let Some(span) = alive.held.take() {
             self.sink.span(&span);
         }
-        let f = alive.reservation as i64;
         alive.held = Some(Span {
             thread: n as u8,
             what: piece.what,
@@ -97,15 +117,12 @@ impl<S: Sink> Tracker<'_, S> {
             },
             to: at.time,
             lag: piece.lag,
-            slope: match piece.what {
-                What::Run => f - 1000,
-                What::Wait => f,
-                What::Blocked => 0,
-            },
+            slope: alive.slope(piece.what),
             bound: piece.bound,
             last_bound: alive.bound,
             overruns: piece.overruns,
             record: piece.record,
+            begun: piece.begun,
         });
     }
 
@@ -114,12 +131,20 @@ impl<S: Sink> Tracker<'_, S> {
         self.finish(n);
         if afresh {
             self.unbind(n);
+            if let Some(alive) = &mut self.alive[n] {
+                alive.parted = None;
+            }
         }
+        self.begins(n, what, lag, record);
+    }
+
+    /// What the thread does begins, or goes on with the span that is held.
+    fn begins(&mut self, n: usize, what: What, lag: i64, record: u64) {
         let (now, overruns) = (self.at.time, self.overruns);
         let Some(alive) = &mut self.alive[n] else {
             return;
         };
-        let bound = alive.bound;
+        let (bound, slope) = (alive.bound, alive.slope(what));
         alive.piece = Piece {
             what,
             from: now,
@@ -127,23 +152,27 @@ impl<S: Sink> Tracker<'_, S> {
             bound,
             overruns,
             record,
+            begun: Begun { time: now, record },
         };
-        match alive.held {
-            Some(span)
-                if (span.what, span.to) == (what, now)
-                    && (span.last_lag(), span.last_bound) == (lag, bound) =>
-            {
-                alive.held = None;
-                alive.piece = Piece {
-                    what,
-                    from: span.from.time,
-                    lag: span.lag,
-                    bound: span.bound,
-                    overruns: span.overruns,
-                    record: span.record,
-                };
-            }
-            _ => {}
+        let Some(span) = alive
+            .held
+            .filter(|span| (span.what, span.to) == (what, now))
+        else {
+            return;
+        };
+        if (span.last_lag(), span.slope, span.last_bound) == (lag, slope, bound) {
+            alive.held = None;
+            alive.piece = Piece {
+                what,
+                from: span.from.time,
+                lag: span.lag,
+                bound: span.bound,
+                overruns: span.overruns,
+                record: span.record,
+                begun: span.begun,
+            };
+        } else if alive.parted == Some(now) {
+            alive.piece.begun = span.begun;
         }
     }
 
@@ -249,7 +278,7 @@ impl<S: Sink> Tracker<'_, S> {
                     answer: refused,
                     words: words::refusal(r, refused, e.settings()),
                     thread: match r.kind {
-                        kind::ADMIT | kind::REMOVE | kind::WAKE => named,
+                        kind::ADMIT | kind::REMOVE | kind::WAKE | kind::CHANGE => named,
                         kind::REPORT => self.ran,
                         _ => None,
                     },
@@ -291,6 +320,7 @@ impl<S: Sink> Tracker<'_, S> {
                     group,
                     settings: e.settings(),
                     bound,
+                    bare: bound,
                     level: self.at.time,
                     piece: Piece {
                         what: What::Wait,
@@ -299,14 +329,23 @@ impl<S: Sink> Tracker<'_, S> {
                         bound,
                         overruns: self.overruns,
                         record: number,
+                        begun: Begun {
+                            time: self.at.time,
+                            record: number,
+                        },
                     },
                     held: None,
+                    parted: None,
                 });
             }
             kind::REMOVE => self.dies(subject, Some(End::Left(number))),
             kind::WAKE => {
                 self.becomes(subject, What::Wait, e.lag(r.subject), true, number);
                 self.sink.wake(r.subject, self.at, number);
+            }
+            kind::CHANGE => {
+                let (new, _) = e.place(r.subject).unwrap_or((0, 0));
+                self.changes(subject, new, number);
             }
             kind::DISPATCH if thread == NONE => self.sink.idle(self.at, number),
             kind::DISPATCH => {

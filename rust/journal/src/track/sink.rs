@@ -18,8 +18,16 @@ pub enum What {
     Blocked,
 }
 
+/// Where something begins: the time and the record.
+#[derive(Clone, Copy, Debug, PartialEq, Eq)]
+pub struct Begun {
+    pub time: u64,
+    pub record: u64,
+}
+
 /// A thread does one thing for a time above 0. The core given to the same
-/// thread again without a break is one span.
+/// thread again without a break is one span; a change of the thread's
+/// reservation parts it.
 #[derive(Clone, Copy, Debug, PartialEq, Eq)]
 pub struct Span {
     pub thread: u8,
@@ -36,6 +44,9 @@ pub struct Span {
     pub overruns: u64,
     /// The record it began with.
     pub record: u64,
+    /// Where that which it does began, with the spans before it from which
+    /// changes alone part it.
+    pub begun: Begun,
 }
 
 impl Span {
@@ -82,7 +93,7 @@ impl Overrun {
 /// The most that the share guarantee lets a thread's lag be, for a time. It is
 /// level, or rises with the lag where another thread overruns its slice while
 /// this one waits. What is counted of the others' overruns is given back where
-/// the lag is counted afresh.
+/// the lag is counted afresh. A change of the reservation begins another.
 #[derive(Clone, Copy, Debug, PartialEq, Eq)]
 pub struct Limit {
     pub thread: u8,
@@ -91,6 +102,8 @@ pub struct Limit {
     /// At `from`, and its growth per tick.
     pub bound: i64,
     pub slope: i64,
+    /// Without overruns.
+    pub bare: i64,
 }
 
 impl Limit {
@@ -105,6 +118,27 @@ impl Limit {
     pub fn last_bound(&self) -> i64 {
         self.bound + self.slope * (self.to - self.from.time) as i64
     }
+
+    /// Of a life without length, or touched by a part at its edge alone.
+    pub fn is_empty(&self) -> bool {
+        self.to == self.from.time
+    }
+}
+
+/// A thread was given another reservation, or the same again. From here its
+/// lag is counted afresh.
+#[derive(Clone, Copy, Debug, PartialEq, Eq)]
+pub struct Change {
+    pub thread: u8,
+    pub at: At,
+    pub record: u64,
+    /// The reservation before and from here on.
+    pub old: u64,
+    pub new: u64,
+    /// The most that the share guarantee lets the lag be without overruns,
+    /// before and from here on.
+    pub old_bound: i64,
+    pub new_bound: i64,
 }
 
 /// How a thread's time in the list ended.
@@ -128,10 +162,12 @@ pub struct Life {
     pub thread: u8,
     pub from: At,
     pub to: u64,
+    /// At the end.
     pub reservation: u64,
     pub group: u8,
     pub settings: Settings,
-    /// The most that the share guarantee lets its lag be without overruns.
+    /// The most that the share guarantee lets its lag be without overruns, by
+    /// this reservation.
     pub bound: i64,
     pub end: End,
 }
@@ -187,6 +223,8 @@ pub trait Sink {
     fn overrun(&mut self, _: &Overrun) {}
     /// A thread's limits follow each other from its admission to its end.
     fn limit(&mut self, _: &Limit) {}
+    /// A thread's changes come in their order, before its life.
+    fn change(&mut self, _: &Change) {}
     fn life(&mut self, _: &Life) {}
     fn wake(&mut self, _thread: u8, _at: At, _record: u64) {}
     fn idle(&mut self, _at: At, _record: u64) {}

@@ -7,7 +7,9 @@ use crate::codec::{GROUPS, THREADS};
 use crate::engine::{Engine, Settings};
 use crate::text::Tally;
 
-use super::sink::{At, End, Gap, Life, Limit, Moment, Overrun, Refused, Sink, Span, What};
+use super::sink::{
+    At, Begun, Change, End, Gap, Life, Limit, Moment, Overrun, Refused, Sink, Span, What,
+};
 
 /// The longest span of a kind, where it begins and with which record.
 #[derive(Clone, Copy, Debug, Default, PartialEq, Eq)]
@@ -18,13 +20,9 @@ pub struct Longest {
 }
 
 impl Longest {
-    fn take(&mut self, ticks: u64, from: At, record: u64) {
+    fn take(&mut self, ticks: u64, at: u64, record: u64) {
         if ticks > self.ticks {
-            *self = Longest {
-                ticks,
-                at: from.time,
-                record,
-            };
+            *self = Longest { ticks, at, record };
         }
     }
 }
@@ -37,6 +35,49 @@ pub struct Greatest {
     pub at: u64,
     pub record: u64,
     pub bound: i64,
+}
+
+/// What a thread reserved in a life.
+#[derive(Clone, Copy, Debug, Default, PartialEq, Eq)]
+pub struct Reserved {
+    /// How often it changed.
+    pub changes: u64,
+    /// At the beginning, after the first change, and at the end.
+    pub first: u64,
+    pub second: u64,
+    pub last: u64,
+}
+
+impl Reserved {
+    fn change(&mut self, c: &Change) {
+        if self.changes == 0 {
+            (self.first, self.second) = (c.old, c.new);
+        }
+        self.changes += 1;
+    }
+
+    fn end(mut self, last: u64) -> Reserved {
+        if self.changes == 0 {
+            self.first = last;
+        }
+        Reserved { last, ..self }
+    }
+
+    /// One after the other, all of up to three.
+    pub fn told(&self) -> String {
+        let Reserved {
+            first,
+            second,
+            last,
+            ..
+        } = self;
+        match self.changes {
+            0 => last.to_string(),
+            1 => format!("{first} \u{2192} {last}"),
+            2 => format!("{first} \u{2192} {second} \u{2192} {last}"),
+            _ => format!("{first} \u{2192} \u{2026} \u{2192} {last}"),
+        }
+    }
 }
 
 /// A thread number.
@@ -64,15 +105,21 @@ pub struct Thread {
     /// overrun.
     pub bound: i64,
     pub rises: u64,
-    /// Of its last life: reservation, group, achieved share and end.
-    pub reservation: u64,
+    /// Changes of its reservation, and the last.
+    pub changes: u64,
+    pub last_change: Option<Begun>,
+    /// Of its last life: reservations, group, achieved share and end.
+    pub reserved: Reserved,
     pub group: u8,
     pub share: u64,
     pub end: Option<End>,
-    /// Of the life that has not ended yet.
+    /// Of the life that has not ended yet. Its bound is that of a limit without
+    /// length if there is no other.
     ticks_now: u64,
     largest_now: Greatest,
     bound_now: i64,
+    bound_here: i64,
+    reserved_now: Reserved,
 }
 
 /// A group, as it was opened last.
@@ -159,6 +206,11 @@ impl Survey {
         self.threads.iter().map(|t| t.overruns).sum()
     }
 
+    /// How many reservations were changed.
+    pub fn changes(&self) -> u64 {
+        self.threads.iter().map(|t| t.changes).sum()
+    }
+
     fn thread(&mut self, n: u8) -> &mut Thread {
         &mut self.threads[n as usize]
     }
@@ -190,7 +242,8 @@ impl Sink for Survey {
             What::Wait => &mut t.longest_wait,
             What::Blocked => &mut t.longest_block,
         };
-        longest.take(span.length(), span.from, span.record);
+        let Begun { time, record } = span.begun;
+        longest.take(span.to - time, time, record);
         for (lag, at, bound) in [
             (span.lag, span.from.time, span.bound),
             (span.last_lag(), span.to, span.last_bound),
@@ -219,13 +272,28 @@ impl Sink for Survey {
         let t = self.thread(o.thread);
         t.overruns += 1;
         t.overrun += o.length();
-        t.longest_overrun.take(o.length(), o.from, o.record);
+        t.longest_overrun.take(o.length(), o.from.time, o.record);
     }
 
     fn limit(&mut self, limit: &Limit) {
         let t = self.thread(limit.thread);
+        if limit.is_empty() {
+            t.bound_here = limit.bound;
+            return;
+        }
         t.bound_now = t.bound_now.max(limit.last_bound());
         t.rises += u64::from(limit.slope > 0);
+        self.grown |= limit.last_bound() > limit.bare;
+    }
+
+    fn change(&mut self, c: &Change) {
+        let t = self.thread(c.thread);
+        t.changes += 1;
+        t.last_change = Some(Begun {
+            time: c.at.time,
+            record: c.record,
+        });
+        t.reserved_now.change(c);
     }
 
     fn life(&mut self, life: &Life) {
@@ -234,9 +302,13 @@ impl Sink for Survey {
         self.settings = life.settings;
         let t = self.thread(life.thread);
         t.lives += 1;
-        let bound = std::mem::take(&mut t.bound_now);
+        let here = std::mem::take(&mut t.bound_here);
+        let bound = match std::mem::take(&mut t.bound_now) {
+            0 => here,
+            bound => bound,
+        };
         t.bound = t.bound.max(bound);
-        t.reservation = life.reservation;
+        t.reserved = std::mem::take(&mut t.reserved_now).end(life.reservation);
         t.group = life.group;
         t.end = Some(life.end);
         let time = life.to - life.from.time;
@@ -249,7 +321,6 @@ impl Sink for Survey {
         if t.lives == 1 || largest.lag > t.largest.lag {
             t.largest = largest;
         }
-        self.grown |= bound > life.bound;
     }
 
     fn wake(&mut self, thread: u8, _: At, _: u64) {

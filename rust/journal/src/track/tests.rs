@@ -1,6 +1,7 @@
 //! Spans are whole, within the bound, and cut as asked.
 
 mod bounds;
+mod changes;
 
 use super::*;
 use crate::codec::{self, RECORDS};
@@ -9,11 +10,13 @@ use model::calls::{self, Call};
 use model::random::{self, Rng};
 use model::rule::Scheduler;
 
-/// Checks each life as it ends against the spans and limits handed out for it.
+/// Checks each life as it ends against the spans, limits and changes handed out
+/// for it.
 #[derive(Default)]
 struct Checked {
     spans: Vec<Vec<Span>>,
     limits: Vec<Vec<Limit>>,
+    changes: Vec<Vec<Change>>,
     /// The last span of a thread's last life.
     last: Vec<Option<Span>>,
     ticks: u64,
@@ -22,6 +25,8 @@ struct Checked {
     overruns: u64,
     rises: u64,
     falls: u64,
+    /// Spans that a change alone parts from the one before.
+    parted: u64,
     gaps: u64,
     end: At,
 }
@@ -31,6 +36,7 @@ impl Checked {
         let mut checked = Checked {
             spans: vec![Vec::new(); THREADS],
             limits: vec![Vec::new(); THREADS],
+            changes: vec![Vec::new(); THREADS],
             last: vec![None; THREADS],
             ..Checked::default()
         };
@@ -43,21 +49,56 @@ impl Checked {
     }
 }
 
-/// Limits of a life without overruns: they follow each other, rise by the
-/// reservation or not at all, and fall to the bare bound alone. Answers how many
-/// rise and how often they fall.
-fn checked_limits(life: &Life, limits: &[Limit], whole: bool) -> (u64, u64) {
+/// What a thread reserves from a time on.
+fn reserved(life: &Life, changes: &[Change], time: u64) -> u64 {
+    match changes.iter().rev().find(|c| c.at.time <= time) {
+        Some(last) => last.new,
+        None => changes.first().map_or(life.reservation, |next| next.old),
+    }
+}
+
+/// A life's changes follow each other and lead to what it reserves at its end.
+fn checked_changes(life: &Life, changes: &[Change]) {
+    let mut before: Option<Change> = None;
+    for c in changes {
+        if let Some(before) = before {
+            assert_eq!((before.new, before.new_bound), (c.old, c.old_bound));
+            assert!(before.record < c.record && before.at <= c.at);
+        }
+        assert_eq!(c.old_bound, bound(c.old, life.settings));
+        assert_eq!(c.new_bound, bound(c.new, life.settings));
+        before = Some(*c);
+    }
+    assert!(before.is_none_or(|last| last.new == life.reservation));
+    assert_eq!(life.bound, bound(life.reservation, life.settings));
+}
+
+/// Limits of a life: they follow each other, rise by the reservation of the time
+/// or not at all, and else go to the bare bound of it alone. Answers how many rise
+/// and how often they go there.
+fn checked_limits(life: &Life, limits: &[Limit], changes: &[Change], whole: bool) -> (u64, u64) {
     let (mut rises, mut falls) = (0, 0);
     let mut before: Option<Limit> = None;
     for limit in limits {
         assert_eq!(limit.from, before.map_or(life.from, |before| before.end()));
-        assert!(limit.slope == 0 || limit.slope == life.reservation as i64);
+        // A part may touch one at its edge, on the other side of a change.
+        if !limit.is_empty() || whole {
+            let f = reserved(life, changes, limit.from.time);
+            assert!(limit.slope == 0 || limit.slope == f as i64);
+            assert_eq!(limit.bare, bound(f, life.settings));
+        }
+        assert!(limit.bound >= limit.bare);
+        for c in changes {
+            if limit.from.time < c.at.time && c.at.time < limit.to {
+                assert_eq!((c.new_bound, limit.slope), (limit.bound, 0));
+            }
+        }
         rises += u64::from(limit.slope > 0);
         match before {
-            None => assert!(limit.bound >= life.bound && (!whole || limit.bound == life.bound)),
+            None => assert!(!whole || limit.bound == limit.bare),
             Some(before) if before.last_bound() == limit.bound => {}
             Some(_) => {
-                assert_eq!(limit.bound, life.bound);
+                assert_eq!(limit.bound, limit.bare);
                 falls += 1;
             }
         }
@@ -65,6 +106,49 @@ fn checked_limits(life: &Life, limits: &[Limit], whole: bool) -> (u64, u64) {
     }
     assert_eq!(before.map(|last| last.to), Some(life.to));
     (rises, falls)
+}
+
+/// The slope of a span is that of the reservation of the time; where that changes
+/// the lag is 0, and a change within a span changes nothing of it. Whether a
+/// change alone parts it from the one before.
+fn checked_slope(life: &Life, span: &Span, before: Option<Span>, changes: &[Change]) -> bool {
+    let f = reserved(life, changes, span.from.time) as i64;
+    let slope = match span.what {
+        What::Run => f - 1000,
+        What::Wait => f,
+        What::Blocked => 0,
+    };
+    assert_eq!(span.slope, slope);
+    for c in changes {
+        let within = span.from.time < c.at.time && c.at.time < span.to;
+        assert!(span.from != c.at || span.lag == 0);
+        // Of several at a time the first and the last count.
+        let last = changes.iter().rev().find(|last| last.at == c.at);
+        let first = changes.iter().find(|first| first.at == c.at);
+        let (Some(first), Some(last)) = (first, last) else {
+            continue;
+        };
+        if within && span.what == What::Blocked {
+            assert_eq!(first.old_bound, last.new_bound);
+        } else if within {
+            let gone = (c.at.time - span.from.time) as i64;
+            assert_eq!((first.old, span.lag + span.slope * gone), (last.new, 0));
+        }
+    }
+    let begins = Begun {
+        time: span.from.time,
+        record: span.record,
+    };
+    let parted = span.begun.time < begins.time;
+    match before {
+        Some(before) if parted => {
+            assert_eq!((span.what, span.begun), (before.what, before.begun));
+            assert!(changes.iter().any(|c| c.at == span.from));
+        }
+        // A record at the same time may have begun it, before the change.
+        _ => assert!(span.begun.time == begins.time && span.begun.record <= begins.record),
+    }
+    parted
 }
 
 /// The bound at the ends of a span is that of the limits there.
@@ -97,14 +181,21 @@ impl Sink for Checked {
     }
 
     fn limit(&mut self, limit: &Limit) {
+        assert!(!limit.is_empty() || self.limits[limit.thread as usize].is_empty());
         self.limits[limit.thread as usize].push(*limit);
+    }
+
+    fn change(&mut self, c: &Change) {
+        self.changes[c.thread as usize].push(*c);
     }
 
     fn life(&mut self, life: &Life) {
         self.lives += 1;
         let n = life.thread as usize;
         let limits = std::mem::take(&mut self.limits[n]);
-        let (rises, falls) = checked_limits(life, &limits, true);
+        let changes = std::mem::take(&mut self.changes[n]);
+        checked_changes(life, &changes);
+        let (rises, falls) = checked_limits(life, &limits, &changes, true);
         (self.rises, self.falls) = (self.rises + rises, self.falls + falls);
         let mut at = life.from;
         let mut before: Option<Span> = None;
@@ -113,11 +204,13 @@ impl Sink for Checked {
             assert_eq!(span.from, at);
             at = span.end();
             within(span, &limits);
+            self.parted += u64::from(checked_slope(life, span, before, &changes));
             // Lag goes on or is counted afresh, and like spans are one.
             if let Some(before) = before {
                 let goes_on = (span.lag, span.bound) == (before.last_lag(), before.last_bound);
                 assert!(goes_on || span.lag == 0);
-                assert!(span.what != before.what || !goes_on);
+                let alike = (span.what, span.slope) == (before.what, before.slope);
+                assert!(!alike || !goes_on);
             }
             before = Some(*span);
         }
@@ -158,7 +251,7 @@ fn surveyed(journal: &[u8], checked: &Checked) {
         assert_eq!(stays, state.place(n).is_some());
         if stays {
             assert_eq!(Some(t.share), state.share(n));
-            assert_eq!(Some((t.reservation, t.group)), state.place(n));
+            assert_eq!(Some((t.reserved.last, t.group)), state.place(n));
             if let Some(span) = checked.last[n as usize] {
                 let lag = state.lag(n);
                 assert!(lag == 0 || span.to < survey.to.time || lag == span.last_lag());
@@ -188,15 +281,17 @@ fn pack(records: &[Record]) -> Vec<u8> {
 #[test]
 fn spans_of_random_journals_are_whole_and_within_the_bound() {
     let mut r = Rng::new(20);
-    let (mut lives, mut overruns) = (0, 0);
+    let (mut lives, mut overruns, mut parted) = (0, 0, 0);
     for _ in 0..2000 {
         let journal = random::journal(&mut r);
         let checked = Checked::of(&journal);
         surveyed(&journal, &checked);
         lives += checked.lives;
         overruns += checked.overruns;
+        parted += checked.parted;
     }
     assert!(lives > 10_000 && overruns > 1000, "{lives} {overruns}");
+    assert!(parted > 1000, "{parted}");
 }
 
 /// Records of a scheduler with long lives.

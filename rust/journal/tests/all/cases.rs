@@ -132,6 +132,7 @@ fn a_late_timer_changes_no_share() {
         settings: late::SETTINGS,
         reservations: &late::RESERVATIONS,
         bursts: &[u64::MAX; late::THREADS],
+        changes: &[],
     };
     // Always late by the same, or each time by another amount.
     for step in [0, 37] {
@@ -175,7 +176,7 @@ fn the_table_shows_both_rules() {
 #[test]
 fn the_shipped_files_are_current() {
     let files = files();
-    assert_eq!(files.len(), 14);
+    assert_eq!(files.len(), 17);
     for (path, bytes) in files {
         let shipped = fs::read(&path).unwrap_or_default();
         assert!(shipped == bytes, "{} is out of date", path.display());

@@ -1,6 +1,7 @@
 //! Tests of the journal tool from outside, in one program.
 
 mod cases;
+mod change;
 mod command;
 mod documents;
 mod draw;
@@ -20,6 +21,8 @@ mod controller;
 mod files;
 #[path = "../../examples/cases/late.rs"]
 mod late;
+#[path = "../../examples/cases/raised.rs"]
+mod raised;
 #[path = "../../examples/cases/table.rs"]
 mod table;
 

@@ -74,9 +74,12 @@ fn figures_of_runs_beyond_their_slices() {
     assert!(text.lines().all(|line| line.chars().count() <= 100));
     let csv = figures.csv(&Names::default());
     let rows: Vec<&str> = csv.lines().skip(1).collect();
-    assert!(rows[0].ends_with(",208000,runnable,1,9,9,100,4"), "{csv}");
     assert!(
-        rows[1].ends_with(",2180,109,2,412180,runnable,2,10,5,309,6"),
+        rows[0].ends_with(",208000,runnable,1,9,9,100,4,0,10,0,0"),
+        "{csv}"
+    );
+    assert!(
+        rows[1].ends_with(",2180,109,2,412180,runnable,2,10,5,309,6,0,20,0,0"),
         "{csv}"
     );
     // Without an overrun there is no word of any, whatever the limit is.
@@ -101,9 +104,9 @@ fn a_part_has_its_part_of_an_overrun() {
     let csv = figures.csv(&Names::default());
     let rows: Vec<&str> = csv.lines().skip(1).collect();
     // 5 of 9 ticks: of the overrun, and in the bound of the other's lag.
-    assert!(rows[0].ends_with(",goes on,1,5,5,100,4"), "{csv}");
+    assert!(rows[0].ends_with(",goes on,1,5,5,100,4,0,10,0,0"), "{csv}");
     assert!(
-        rows[1].ends_with(",2100,105,2,412100,goes on,0,0,0,0,0"),
+        rows[1].ends_with(",2100,105,2,412100,goes on,0,0,0,0,0,0,20,0,0"),
         "{csv}"
     );
 }
@@ -120,7 +123,7 @@ fn comma_separated_values() {
     assert_eq!(
         lines[1],
         "5,\"read, \"\"out\"\"\",0,500,833,1,50000,3,1,1,32000,0,3,10000,32000,8,0,0,0,\
-         5000000,42000,8,60000000,runnable,0,0,0,0,0"
+         5000000,42000,8,60000000,runnable,0,0,0,0,0,0,500,0,0"
     );
     assert_eq!(lines[0].split(',').count(), lines[2].split(',').count());
     assert_eq!(

@@ -85,6 +85,18 @@ fn every_kind_has_its_line() {
         ),
         ("remove 5", record(kind::REMOVE, [5, 0, 0], 0, 0)),
         ("wake 5", record(kind::WAKE, [5, 0, 0], 0, 0)),
+        (
+            "change 5 reservation 700",
+            record(kind::CHANGE, [5, 0, 0], 700, 0),
+        ),
+        (
+            "change 255 reservation 65535",
+            record(kind::CHANGE, [255, 0, 0], 65_535, 0),
+        ),
+        (
+            "change 0 reservation 0",
+            record(kind::CHANGE, [0, 0, 0], 0, 0),
+        ),
         ("dispatch", record(kind::DISPATCH, [0, 0, 0], 0, 0)),
         (
             "report tick 20000",
@@ -169,6 +181,7 @@ fn an_overrun_limit_in_another_record_is_damage() {
 #[test]
 fn valid_blocks_round_trip() {
     let mut r = Rng::new(1);
+    let mut changes = 0;
     for _ in 0..3000 {
         let count = r.below(6) as usize;
         let rows: Vec<Vec<Record>> = (0..count)
@@ -183,21 +196,24 @@ fn valid_blocks_round_trip() {
         assert!(!text.contains("damaged"));
         assert_eq!(encode(&text).unwrap(), journal);
         assert_eq!(encode(&run(&journal)).unwrap(), journal);
+        changes += text.matches("\nchange ").count();
     }
+    assert!(changes > 5000, "{changes}");
 }
 
 #[test]
 fn damaged_journals_round_trip() {
     let mut r = Rng::new(2);
-    let mut damaged = 0;
+    let (mut damaged, mut changes) = (0, 0);
     for _ in 0..3000 {
         let journal = journal(&mut r);
         let text = decode(&journal);
         damaged += text.matches("damaged").count();
+        changes += text.matches("\nchange ").count();
         assert_eq!(encode(&text).unwrap(), journal);
         assert_eq!(encode(&run(&journal)).unwrap(), journal);
     }
-    assert!(damaged > 1000, "{damaged}");
+    assert!(damaged > 1000 && changes > 10_000, "{damaged} {changes}");
 }
 
 #[test]
@@ -275,6 +291,10 @@ fn a_full_block_takes_no_more_records() {
 fn problems_name_the_line_and_what_is_wrong_with_it() {
     let table = [
         ("dispach", "'dispach' begins no line: start, open,"),
+        (
+            "changes 5 reservation 1",
+            "'changes' begins no line: start, open, close, admit, remove, wake, change,",
+        ),
         ("Dispatch", "'Dispatch' begins no line"),
         ("dispatch 5", "dispatch: '5' after the end of the line"),
         (
@@ -301,6 +321,42 @@ fn problems_name_the_line_and_what_is_wrong_with_it() {
         (
             "admit 5 group 0 reservation 65536",
             "admit: reservation: '65536' is above 65535",
+        ),
+        (
+            "change",
+            "change: the line ends before the number of the thread",
+        ),
+        (
+            "change 256 reservation 1",
+            "change: the thread: '256' is above 255",
+        ),
+        (
+            "change 5",
+            "change: the line ends where 'reservation' is expected",
+        ),
+        (
+            "change 5 700",
+            "change: 'reservation' expected, '700' found",
+        ),
+        (
+            "change 5 group 0 reservation 700",
+            "change: 'reservation' expected, 'group' found",
+        ),
+        (
+            "change 5 reservation",
+            "change: the line ends before the number of reservation",
+        ),
+        (
+            "change 5 reservation -1",
+            "change: reservation: '-1' is not a decimal number",
+        ),
+        (
+            "change 5 reservation 65536",
+            "change: reservation: '65536' is above 65535",
+        ),
+        (
+            "change 5 reservation 700 for 20",
+            "change: 'for' after the end of the line",
         ),
         ("report", "report: the line ends before the reason"),
         ("report 0 5", "report: '0' is no reason: tick, block,"),
@@ -464,6 +520,71 @@ fn run_says_why() {
     assert!(lines[2].ends_with("# 0 0 64 0 0 idle"));
     assert!(lines[3].ends_with("# 1 7 0 0 0 number above 63 or not admitted"));
     assert!(lines[4].ends_with("# 2 11 0 0 0 nothing is running"));
+}
+
+#[test]
+fn a_change_with_other_fields_is_damage() {
+    // The thread in byte 1 of the record, the reservation in 4 and 5.
+    let change = record(kind::CHANGE, [5, 0, 0], 700, 0);
+    let good = blocks(&[&[change]]);
+    assert_eq!(good[14..20], [9, 5, 0, 0, 0xbc, 0x02]);
+    for at in 1..16 {
+        let mut block = good.clone();
+        block[14 + at] ^= 1;
+        let (body, check) = block.split_at_mut(BLOCK - 2);
+        check.copy_from_slice(&model::blocks::check((&*body).try_into().unwrap()));
+        let text = decode(&block);
+        let used = [1, 4, 5].contains(&at);
+        assert_eq!(text.starts_with("damaged 0 19 #"), !used, "{at}: {text}");
+        assert_eq!(encode(&text).unwrap(), block);
+    }
+    for wrong in [
+        record(kind::CHANGE, [5, 1, 0], 700, 0),
+        record(kind::CHANGE, [5, 0, 1], 700, 0),
+        record(kind::CHANGE, [5, 0, 0], 700, 1),
+        Record {
+            overrun: 1,
+            ..change
+        },
+        Record {
+            kind: kind::CHANGE + 1,
+            ..change
+        },
+    ] {
+        assert_eq!(codec::write(0, &[wrong]), Err(19));
+    }
+}
+
+#[test]
+fn run_says_why_a_change_is_refused() {
+    let text = "open 1 parent 0 ceiling 300\nadmit 5 group 0 reservation 500\n\
+                admit 7 group 1 reservation 100\nadmit 8 group 1 reservation 150\n\
+                change 64 reservation 1\nchange 6 reservation 0\nchange 5 reservation 0\n\
+                change 5 reservation 1001\nchange 5 reservation 701\nchange 5 reservation 700\n\
+                change 7 reservation 151\nchange 7 reservation 150\n\
+                dispatch\nchange 5 reservation 0\nchange 7 reservation 1\n";
+    let text = run(&encode(text).unwrap());
+    let answers: Vec<&str> = text
+        .lines()
+        .filter(|line| line.starts_with("change"))
+        .filter_map(|line| Some(line.split_once(" # ")?.1))
+        .collect();
+    let room = "more than the group has free, its own included";
+    assert_eq!(
+        answers,
+        [
+            "4 7 0 0 0 number above 63 or not admitted",
+            "5 7 0 0 0 number above 63 or not admitted",
+            "6 4 0 0 0 reservation outside 1 to 1000",
+            "7 4 0 0 0 reservation outside 1 to 1000",
+            &format!("8 5 0 0 0 {room}"),
+            "9 0 0 0 0",
+            &format!("10 5 0 0 0 {room}"),
+            "11 0 0 0 0",
+            "13 9 0 0 0 it is running",
+            "14 0 0 0 0",
+        ]
+    );
 }
 
 /// A thread of 10 with m 10, P 1000, O 9: quantum 100.

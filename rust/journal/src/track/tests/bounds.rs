@@ -1,5 +1,5 @@
-//! The bound of a lag counts what the other threads overran since the lag is
-//! counted, and nothing else.
+//! The bound of a lag is that of the thread's reservation; it counts what the
+//! other threads overran since the lag is counted, and nothing else.
 
 use super::*;
 use model::blocks;
@@ -170,6 +170,13 @@ impl Count {
                 self.others[n] = 0;
                 self.now[n] = (0, self.bound(n));
             }
+            (answer::ACCEPTED, kind::CHANGE) => {
+                assert_eq!(self.model.lag(n as u64), Ok(0));
+                self.others[n] = 0;
+                if self.now[n].0 == 0 {
+                    self.now[n].1 = self.bound(n);
+                }
+            }
             (answer::ACCEPTED, kind::REPORT) => self.report(&before, &r),
             _ => {}
         }
@@ -231,6 +238,8 @@ fn bounds_and_overruns_agree_with_a_count_on_the_model() {
 struct Cut {
     spans: Vec<Vec<Span>>,
     limits: Vec<Vec<Limit>>,
+    changes: Vec<Vec<Change>>,
+    changed: u64,
     overrun: u64,
     rises: u64,
 }
@@ -248,12 +257,22 @@ impl Sink for Cut {
         self.overrun += o.length();
     }
 
+    fn change(&mut self, c: &Change) {
+        self.changes[c.thread as usize].push(*c);
+    }
+
     fn life(&mut self, life: &Life) {
         let n = life.thread as usize;
         let limits = std::mem::take(&mut self.limits[n]);
-        self.rises += checked_limits(life, &limits, false).0;
+        let changes = std::mem::take(&mut self.changes[n]);
+        checked_changes(life, &changes);
+        self.changed += changes.len() as u64;
+        self.rises += checked_limits(life, &limits, &changes, false).0;
+        let mut before = None;
         for span in std::mem::take(&mut self.spans[n]) {
             within(&span, &limits);
+            checked_slope(life, &span, before, &changes);
+            before = Some(span);
         }
     }
 }
@@ -261,7 +280,7 @@ impl Sink for Cut {
 #[test]
 fn parts_keep_the_bounds_and_share_the_overruns() {
     let mut r = Rng::new(22);
-    let mut rises = 0;
+    let (mut rises, mut changed) = (0, 0);
     for _ in 0..200 {
         let bytes = late_journal(&mut r, 200);
         let journal = Journal::whole(&bytes);
@@ -283,14 +302,16 @@ fn parts_keep_the_bounds_and_share_the_overruns() {
             let mut cut = Cut {
                 spans: vec![Vec::new(); THREADS],
                 limits: vec![Vec::new(); THREADS],
+                changes: vec![Vec::new(); THREADS],
                 ..Cut::default()
             };
             let mut clip = Clip::new(&window, &mut cut);
             track::<Proved>(journal, &mut Progress::silent(), &mut clip);
             parts += cut.overrun;
             rises += cut.rises;
+            changed += cut.changed;
         }
         assert_eq!(parts, whole);
     }
-    assert!(rises > 10_000, "{rises}");
+    assert!(rises > 10_000 && changed > 1000, "{rises} {changed}");
 }
