@@ -33,10 +33,12 @@
  * Reservations that change. mtr_change gives an admitted thread more or less of
  * the core. The running thread is refused with MTR_REFUSED_THREAD_RUNNING, so
  * that the host makes the call between a report and the next dispatch. Less
- * holds at once, more from the thread's next turn on. Where its group has too
- * little free, another thread of the group makes room first and gets it back
- * last. The bound on what a thread is owed holds from one change of its
- * reservation to the next.
+ * holds at once: what is left of the allotment is cut to the new quantum. More
+ * holds when the allotment is next renewed, after what the thread has left.
+ * Where its group has too little free, another thread of the group makes room
+ * first and gets it back last; its allotment stays cut until it is renewed. The
+ * bound on what a thread is owed holds from one change of its reservation to the
+ * next.
  *
  * Threads and interrupts. The library has no memory of its own, allocates none,
  * and of libc calls the mem functions alone. A call touches what it is handed
@@ -865,7 +867,9 @@ MTR_MUST_USE static inline mtr_answer mtr_subtree(const mtr_scheduler *state,
 
 /*
  * A thread's lag: its reservation times the meter's growth since its anchor,
- * less 1000 times its own ticks since; 0 while it is blocked.
+ * less 1000 times its own ticks since; 0 while it is blocked. The anchor is its
+ * admission, its last wake, its last yield or the last change of its
+ * reservation, whichever came last.
  *
  * Refuses, the first that applies:
  *   16 MTR_REFUSED_UNSOUND: the state is not sound

@@ -24,6 +24,7 @@ pub struct ShareLine {
 }
 
 // A thread's lag: its reservation times the meter's growth since its anchor, less 1000 times its own ticks since; 0 while it is blocked.
+// The anchor is its admission, its last wake, its last yield or the last change of its reservation, whichever came last.
 // Refused: 16, the state is not sound; 7, the number is above 63 or not admitted. The state is unchanged.
 #[no_mangle]
 pub extern "C" fn mtr_by_value_lag(state: Scheduler, number: u64) -> LagLine

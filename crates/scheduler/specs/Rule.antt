@@ -4,7 +4,8 @@ use mathlib.Core.Bool.{Bool, true, false, cond}
 use lib.Dec.{eqb}
 use Rattle.scheduler.specs.declared.Scheduler.{Scheduler}
 use Rattle.scheduler.specs.State.{sliceAt}
-use Rattle.scheduler.specs.Refusals.{Call, openGroup, closeGroup, admit, remove, wake, dispatch, report, change, refusal, startRefusal}
+use Rattle.scheduler.specs.Refusals.{Call, openGroup, closeGroup, admit, remove, wake, dispatch, report, change, refusal}
+use Rattle.scheduler.specs.Refusals.{startRefusal}
 use Rattle.scheduler.specs.Effects.{chosen, passedOver, effect, started, unstarted}
 
 -- answer: 0 accepted, or the refusal

@@ -121,7 +121,7 @@ pub record Protected (s : Scheduler) (cs : List Call) (x : ℕ) : Type 0 where
   pub keeps : T (throughout (keepsRunnable x) (s .running) (trace s cs))
   pub unchanged : Unchanged s cs x
 
--- RULE 9.5: y is admitted throughout
+-- RULE 9.5, its first part: y is admitted throughout; the second is `Unchanged`
 pub record Present (s : Scheduler) (cs : List Call) (y : ℕ) : Type 0 where
   pub reserved : T (reservedAt s y)
   pub keeps : T (throughout (keepsAdmitted y) (s .running) (trace s cs))

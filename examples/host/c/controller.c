@@ -230,8 +230,9 @@ static void admit_task(host *h, world *w, unsigned n)
 }
 
 /*
- * A method change needs more readout. The archive makes room first; where there is still too little, it gets its own back and
- * readout goes on with what it has. A running thread can't be changed, so this is done between a report and a dispatch.
+ * A method change needs more readout. The archive makes room first; where there is still too little, it gets its reservation
+ * back, not what was cut of its turn, and readout goes on with what it has. A running thread can't be changed, so this is done
+ * between a report and a dispatch.
  */
 static void raise_readout(host *h, world *w)
 {

@@ -1,5 +1,5 @@
-//! A change of a reservation: every amount for every thread of states with nested and full groups, every allotment about the new quantum, the
-//! meter's limits, states that are not sound, the worked example, and the records of kind 9 in blocks and through `mtrrun`.
+//! A change of a reservation: every amount for every thread of states with nested and full groups, every allotment about the new quantum,
+//! the meter's limits, states that are not sound, the worked example, and the records of kind 9 in blocks and through `mtrrun`.
 
 use check::bytes;
 use check::changes::Changes;
@@ -429,8 +429,8 @@ fn every_thread_of_random_states() {
     assert!(tried.changes.rarer(200).is_empty(), "{:?}", tried.changes);
 }
 
-/// Changes in a row: the list stays, the next dispatch takes the thread that it would have taken, for what the smallest of its changes left,
-/// and its next turn has the last one's quantum.
+/// Changes in a row: the list stays, the next dispatch takes the thread that it would have taken, for what the smallest of its changes
+/// left, and its next turn has the last one's quantum.
 #[test]
 fn changes_in_a_row() {
     let mut r = Rng::new(83);
@@ -682,7 +682,8 @@ fn a_journal_with_changes() {
     assert_eq!(replayed(&journal), wanted);
 }
 
-/// A change with an unused field set refuses its block, each field alone. Until a start is accepted a change then gives 20, whatever it holds.
+/// A change with an unused field set refuses its block, each field alone. Until a start is accepted a change then gives 20, whatever it
+/// holds.
 #[test]
 fn refused_blocks() {
     let good = [admission(5, 0, 500), change(5, 600)];

@@ -1,6 +1,6 @@
-//! Journals of earlier versions: `mtrrun` and the model's replay print for each, to the byte, what the `mtrrun` of its version printed. Those
-//! of 1.1.0 are from before there was an overrun limit, those of 2.0.0 from before there was a change of a reservation. journals-1.1/README.md
-//! and journals-2.0/README.md say where they are from.
+//! Journals of earlier versions: `mtrrun` and the model's replay print for each, to the byte, what the `mtrrun` of its version printed.
+//! Those of 1.1.0 are from before there was an overrun limit, those of 2.0.0 from before there was a change of a reservation.
+//! journals-1.1/README.md and journals-2.0/README.md say where they are from.
 
 use std::collections::BTreeMap;
 use std::fs;
@@ -136,7 +136,8 @@ block 1 19
 66 20 0 0 0
 ";
 
-/// The one thing that changed for a reader of journals: a block with changes is read. Before it and from the next start on all is as before.
+/// The one thing that changed for a reader of journals: a block with changes is read. Before it and from the next start on all is as
+/// before.
 #[test]
 fn a_block_with_changes_is_read_now() {
     let folder = format!("{BEFORE_CHANGES}/apart");

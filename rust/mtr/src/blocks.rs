@@ -64,7 +64,8 @@ pub enum Event {
     /// The overrun limit stands in bytes that were zero before version 2.0.0,
     /// so that the start of an older journal has the limit 0.
     Start(Settings),
-    /// Since version 2.1.0; an older reader refuses the whole block.
+    /// Another reservation for a thread. Since version 2.1.0; an older reader
+    /// refuses the whole block.
     Change {
         thread: u8,
         reservation: u16,

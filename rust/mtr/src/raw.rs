@@ -629,7 +629,9 @@ unsafe extern "C" {
     pub safe fn mtr_by_value_subtree(state: Scheduler, group: u64) -> Total;
 
     /// A thread's lag: its reservation times the meter's growth since its
-    /// anchor, less 1000 times its own ticks since; 0 while it is blocked.
+    /// anchor, less 1000 times its own ticks since; 0 while it is blocked. The
+    /// anchor is its admission, its last wake, its last yield or the last
+    /// change of its reservation, whichever came last.
     ///
     /// Refuses, the first that applies:
     /// - 16 [`REFUSED_UNSOUND`]: the state is not sound

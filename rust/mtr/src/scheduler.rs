@@ -149,9 +149,10 @@ impl Scheduler {
 
     /// Changes the reservation of a thread that does not run. The thread keeps
     /// its place, and stays blocked if it is. Its allotment is cut to the new
-    /// quantum if it is larger and never raised: a thread that is given more
-    /// has it from its next turn on. Its lag is counted afresh from here; its
-    /// share goes on. Refused with [`NoThread`](Refusal::NoThread),
+    /// quantum if it is larger and never raised: less holds at once, and more
+    /// when the allotment is next renewed, after what the thread has left. Its
+    /// lag is counted afresh from here; its share goes on. What it reserves now
+    /// stands in [`as_raw`](Scheduler::as_raw). Refused with [`NoThread`](Refusal::NoThread),
     /// [`ThreadRunning`](Refusal::ThreadRunning),
     /// [`Amount`](Refusal::Amount) or [`NoRoom`](Refusal::NoRoom); what the
     /// thread has already counts as free.

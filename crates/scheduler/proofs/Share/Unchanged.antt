@@ -1,5 +1,5 @@
--- `Unchanged` says what it seems to: of a thread that stays admitted, exactly that its reservation is that of the first state at every point
--- of the stretch, after each of its calls. It is kept by every call that retains it; and a change that does not would show right after it.
+-- `Unchanged` says what it seems to: of a thread that stays admitted, exactly that its reservation is that of the first state at every
+-- point of the stretch, after each of its calls. Every call that retains it keeps it; and a change that does not shows right after it.
 use Prim.Native.Nat.{ℕ, zero, suc}
 use mathlib.Core.Path.{_≡_, refl, sym, ap, subst, _∙_}
 use mathlib.Core.List.{List, [], _∷_}

@@ -243,8 +243,8 @@ impl World {
     }
 
     /// A method change needs more readout. The archive makes room first; where
-    /// there is still too little, it gets its own back and readout goes on with
-    /// what it has. A running thread can't be changed, so this is done between a
+    /// there is still too little, it gets its reservation back, not what was cut of
+    /// its turn, and readout goes on with what it has. A running thread can't be changed, so this is done between a
     /// report and a dispatch.
     fn raise_readout(&mut self, host: &mut Host) -> io::Result<()> {
         host.accepted(change(ARCHIVE, LOWERED))?;

@@ -65,10 +65,12 @@ const HEAD: &str = r#"/*
  * Reservations that change. mtr_change gives an admitted thread more or less of
  * the core. The running thread is refused with MTR_REFUSED_THREAD_RUNNING, so
  * that the host makes the call between a report and the next dispatch. Less
- * holds at once, more from the thread's next turn on. Where its group has too
- * little free, another thread of the group makes room first and gets it back
- * last. The bound on what a thread is owed holds from one change of its
- * reservation to the next.
+ * holds at once: what is left of the allotment is cut to the new quantum. More
+ * holds when the allotment is next renewed, after what the thread has left.
+ * Where its group has too little free, another thread of the group makes room
+ * first and gets it back last; its allotment stays cut until it is renewed. The
+ * bound on what a thread is owed holds from one change of its reservation to the
+ * next.
  *
  * Threads and interrupts. The library has no memory of its own, allocates none,
  * and of libc calls the mem functions alone. A call touches what it is handed

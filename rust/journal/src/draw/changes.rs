@@ -19,8 +19,8 @@ pub const STYLE: &str = "\
 .to{font-size:11px;fill:#00664b}
 ";
 
-/// Changes of a thread at the same pixel: what it reserved before and after
-/// them, and the bounds of its lag.
+/// Changes of a thread at the same pixel, each from what the one before it
+/// left: what it reserved before and after them, and the bounds of its lag.
 #[derive(Clone, Debug)]
 pub struct Mark {
     x: f64,
@@ -54,7 +54,8 @@ impl Marks {
             duration(c.new_bound as f64 / 1000.0)
         );
         match marks.last_mut() {
-            Some(last) if x - last.x < 1.0 => {
+            // What another life of the thread reserved has a mark of its own.
+            Some(last) if x - last.x < 1.0 && c.old == last.reserved.1 => {
                 (last.reserved.1, last.bounds.1) = (c.new, c.new_bound);
                 if last.title.len() < 1000 {
                     let _ = write!(last.title, "\n{title}");

@@ -12,7 +12,9 @@ pub fn escape(text: &str) -> String {
             '<' => out.push_str("&lt;"),
             '>' => out.push_str("&gt;"),
             '"' => out.push_str("&quot;"),
-            c if (c.is_control() && c != '\t') || matches!(c, '\u{fffe}' | '\u{ffff}') => {
+            c if (c.is_control() && !matches!(c, '\t' | '\n'))
+                || matches!(c, '\u{fffe}' | '\u{ffff}') =>
+            {
                 out.push('\u{fffd}')
             }
             c => out.push(c),

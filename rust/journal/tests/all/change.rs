@@ -406,3 +406,28 @@ fn readout_is_raised_and_has_what_it_reserves() {
     assert!(svg.contains(">60 ms → 56 ms<") && svg.contains(">56 ms → 60 ms<"));
     assert_eq!(RAISED.0, "raised");
 }
+
+/// Changes at one moment are one mark, and each is told on a line of its title; in
+/// another life of the thread they are another mark.
+#[test]
+fn changes_at_one_moment() {
+    let text = "start thousandth 100 interval 20000\nadmit 1 group 0 reservation 500\n\
+        dispatch\nreport tick 1000\n\
+        change 1 reservation 400\nchange 1 reservation 300\nremove 1\n\
+        admit 1 group 0 reservation 50\nchange 1 reservation 250\n\
+        dispatch\nreport tick 1000\n";
+    let svg = svg(&encode(text));
+    assert!(!svg.contains('\u{fffd}'));
+    // The first is the legend's.
+    let marks = svg.split("<path class=\"change\"").skip(2);
+    let titles: Vec<&str> = marks
+        .filter_map(|mark| mark.split("<title>").nth(1)?.split("</title>").next())
+        .collect();
+    assert_eq!(titles.len(), 2);
+    let lines: Vec<&str> = titles[0].lines().collect();
+    assert_eq!(lines.len(), 2);
+    assert!(lines[0].contains("from 500 to 400"));
+    assert!(lines[1].contains("from 400 to 300"));
+    assert!(titles[1].contains("from 50 to 250"));
+    assert!(!svg.contains("500 \u{2192} 250"));
+}

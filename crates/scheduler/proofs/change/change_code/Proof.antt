@@ -2,7 +2,7 @@
 use mathlib.Core.Path.{_≡_, sym, _∙_}
 use mathlib.Core.Bool.{true, false, not}
 use native.Mathlib.Omega.{arith}
-use lib.Dec.{ltb}
+use lib.Dec.{ltb, eqb}
 use borrow.Author.Needs.{needs}
 use borrow.Author.Tests.{lt-ltb, le-ltb, not-true, not-false}
 use Rattle.base.specs.Checks.{within, firstOf}
@@ -47,7 +47,10 @@ module _ (c : tie.Else3) where
 
 returns-4 : tie.Need-returns-4
 unfolding firstOf
-returns-4 c = let e = c .before in simp (fine e, low e, there e, c .if4 .taken)
+returns-4 c =
+    let e = c .before in
+    let runs : eqb (given e .args .running) (given e .args .number) ≡ true = c .if4 .taken in
+    simp (fine e, low e, there e, runs)
 
 returns-5 : tie.Need-returns-5
 unfolding firstOf
