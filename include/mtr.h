@@ -15,7 +15,7 @@
  *     ...
  *     answer = mtr_dispatch(&state, &run);
  *     if (answer != MTR_ACCEPTED)
- *         log(mtr_answer_text(answer));
+ *         warn(mtr_answer_text(answer));
  *
  * Every value of every argument is allowed, also a state of arbitrary bytes: it
  * is refused with MTR_REFUSED_UNSOUND. A pointer is not null, is aligned and is
@@ -31,14 +31,16 @@
  * its quantum less the debt. With O = 0 a report uses at most its slice.
  *
  * Reservations that change. mtr_change gives an admitted thread more or less of
- * the core. The running thread is refused with MTR_REFUSED_THREAD_RUNNING, so
- * that the host makes the call between a report and the next dispatch. Less
- * holds at once: what is left of the allotment is cut to the new quantum. More
- * holds when the allotment is next renewed, after what the thread has left.
- * Where its group has too little free, another thread of the group makes room
- * first and gets it back last; its allotment stays cut until it is renewed. The
- * bound on what a thread is owed holds from one change of its reservation to the
- * next.
+ * the core. The running thread alone is refused, with
+ * MTR_REFUSED_THREAD_RUNNING: the host changes it between a report and the next
+ * dispatch. Less holds at once: an allotment larger than the new quantum is cut
+ * to it. More holds when the allotment is next renewed, after what the thread
+ * has left. Where its group has too little free, the host gives another thread
+ * of the group less first, and its own back when the first has gone back; what
+ * was cut of its allotment comes back when that is renewed. The share guarantee,
+ * the limit on how far a runnable thread falls behind its reservation, holds
+ * while the reservation stays the same. A change to another amount begins it
+ * anew, and a thread that is changed again and again may get next to nothing.
  *
  * Threads and interrupts. The library has no memory of its own, allocates none,
  * and of libc calls the mem functions alone. A call touches what it is handed
@@ -46,8 +48,8 @@
  * independent: on several cores, in threads, in interrupt handlers. A call on a
  * state is not atomic. Where two could meet on one state, the host keeps them
  * apart, with a lock, or with interrupts off where a handler makes one of them.
- * A handler that cannot wait leaves a note (the number to wake or to change) to
- * the loop that dispatches. A call never waits and never calls back.
+ * A handler that cannot wait leaves a note (whom to wake, what to change) to the
+ * loop that dispatches. A call never waits and never calls back.
  *
  * Machine. The library is compiled for the System V calling convention. It uses
  * the general and the SSE registers (no AVX, no x87, no thread-local storage)
@@ -802,8 +804,7 @@ MTR_MUST_USE static inline mtr_answer mtr_report(mtr_scheduler *state,
  *   4 MTR_REFUSED_AMOUNT: the reservation is outside 1 to 1000
  *   5 MTR_REFUSED_NO_ROOM: the reservation exceeds what the thread's group
  *       has free, its old reservation counted as free
- * The state is then unchanged. Accepted, every other thread is unchanged, and
- * so are the list and the groups.
+ * The state is then unchanged. Accepted, only the thread's entry changes.
  */
 MTR_MUST_USE static inline mtr_answer mtr_change(mtr_scheduler *state,
     uint64_t number, uint64_t reservation)

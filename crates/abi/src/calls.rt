@@ -151,7 +151,7 @@ pub extern "C" fn mtr_by_value_report(state: Scheduler, reason: u64, used: u64) 
 // is; its allotment is cut to the new quantum if it is larger and never raised; its lag is counted afresh from here, and its share goes on.
 // Refused: 16, the state is not sound; 7, the number is above 63 or not admitted; 9, the thread is running; 4, the reservation is outside 1
 // to 1000; 5, the reservation exceeds what the thread's group has free, its old reservation counted as free. The state is then unchanged.
-// Accepted, every other thread is unchanged, and so are the list and the groups.
+// Accepted, only the thread's entry changes.
 #[no_mangle]
 pub extern "C" fn mtr_by_value_change(state: Scheduler, number: u64, reservation: u64) -> Reply
     ensures { λ r. ⌜ r ≡ replyOut (step (change number reservation) state) ⌝ }

@@ -600,8 +600,7 @@ unsafe extern "C" {
     /// - 5 [`REFUSED_NO_ROOM`]: the reservation exceeds what the thread's group
     ///   has free, its old reservation counted as free
     ///
-    /// The state is then unchanged. Accepted, every other thread is unchanged,
-    /// and so are the list and the groups.
+    /// The state is then unchanged. Accepted, only the thread's entry changes.
     pub safe fn mtr_by_value_change(state: Scheduler, number: u64, reservation: u64) -> Reply;
 
     /// Answers 1 if the state is sound, else 0.
