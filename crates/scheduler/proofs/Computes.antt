@@ -56,24 +56,6 @@ use Rattle.scheduler.specs.Effects.{
   started,
 }
 use Rattle.scheduler.specs.Rule.{isDispatch, accept, refuse, step}
-use Rattle.scheduler.specs.Stretch.{
-  keeps,
-  retains,
-  trace,
-  final,
-  accepted,
-  ticksOf,
-  overrunOf,
-  named,
-  sumIn,
-  ticksIn,
-  overrunsIn,
-  allTicks,
-  ticksBy,
-  overrunsBeside,
-  overrunsBy,
-  throughout,
-}
 
 unfoldable pub lists : Unit {0}
 unfolding within firstOf member distinct without everyOf everyBelow sumBelow first passed
@@ -103,14 +85,6 @@ unfoldable pub calls : Unit {0}
 unfolding step refusal checks free roomFor inUse isDispatch accept refuse startRefusal
 calls = tt
 
-unfoldable pub sums : Unit {0}
-unfolding ticksOf overrunOf sumIn ticksIn overrunsIn allTicks ticksBy overrunsBeside overrunsBy
-sums = tt
-
-unfoldable pub stretches : Unit {0}
-unfolding trace final throughout keeps retains accepted named
-stretches = tt
-
 unfoldable pub computes : Unit {0}
-unfolding lists state writes soundness charges effects calls sums stretches
+unfolding lists state writes soundness charges effects calls
 computes = tt

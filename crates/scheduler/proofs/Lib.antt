@@ -8,7 +8,4 @@ pub mod ListRule
 pub mod Soundness
 pub mod Preserved
 pub mod Room
-pub mod Share
-pub mod Guarantee
 pub mod Computes
-pub mod Example

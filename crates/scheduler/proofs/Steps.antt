@@ -1,5 +1,5 @@
--- Small laws of the definitions: the state after a call, accepted or refused, by cases on its refusal; the meter after a call, the list
--- after a wake and after a change, the chosen thread, the most that a report may use; and a thread's allotment and slice after a thread is
+-- Small laws of the definitions: the state after a call, accepted or refused, by cases on its refusal; the list after
+-- a wake and after a change, the chosen thread, the most that a report may use; and a thread's allotment and slice after a thread is
 -- replaced, charged, woken or changed, read off the table.
 use Prim.Native.Nat.{ℕ, _+_, _-_, _*_, min, _≤_, _<_}
 use mathlib.Core.Path.{_≡_, refl, ap, _∙_}
@@ -17,15 +17,13 @@ use Rattle.scheduler.specs.declared.Scheduler.{Scheduler}
 use Rattle.quota.specs.Quota.{natOf}
 use Rattle.quota.proofs.Debt.{cut-nat}
 use Rattle.scheduler.specs.State.{threadAt, admittedAt, runnableAt, reservationAt, allotmentAt, quantum, listed, sliceAt}
-use Rattle.scheduler.specs.State.{usedMost, reservedAt, chargeMost, withThread, withGroup, withList, withRun}
-use Rattle.scheduler.specs.Refusals.{Call, openGroup, closeGroup, admit, remove, wake, dispatch, report, change, refusal}
-use Rattle.scheduler.specs.Effects.{toRear, offList, join, wokenThread, usedUp, renewed, chargedThread, charged, exited, chosen}
+use Rattle.scheduler.specs.State.{usedMost, reservedAt, chargeMost, withThread, withList}
+use Rattle.scheduler.specs.Refusals.{Call, wake, change, refusal}
+use Rattle.scheduler.specs.Effects.{toRear, wokenThread, usedUp, renewed, chargedThread, chosen}
 use Rattle.scheduler.specs.Effects.{allotmentAfter, changedThread, effect}
 use Rattle.scheduler.specs.Rule.{accept, refuse, step}
-use Rattle.scheduler.specs.Stretch.{ticksOf}
 use Rattle.scheduler.proofs.Debt.{used-most, used-less, after-nat, debt-after, kept-after}
 use Rattle.scheduler.proofs.Facts.{Facts, in-threads, thread-other, thread-same, settings-facts}
-use Rattle.scheduler.proofs.Passed.{reported-cases}
 
 -- the state after a call, accepted or refused
 pub step-state : (c : Call) (s : Scheduler) → refusal c s ≡ 0 → step c s ≡ accept c s
@@ -40,19 +38,6 @@ refused-state c s ne = rw (ne-eqb (refusal c s) 0 ne)
 pub refused-same : (c : Call) (s : Scheduler) → (refusal c s ≡ 0 → ⊥) → (step c s) .state ≡ s
 unfolding refuse
 refused-same c s ne = rw (refused-state c s ne)
-
--- an accepted call raises the meter by the ticks of its report
-pub meter-step : (c : Call) (s : Scheduler) → (effect c s) .meter ≡ s .meter + ticksOf c
-unfolding effect ticksOf withThread withGroup withList withRun offList join toRear charged exited
-meter-step (openGroup n p c) s = omega arith
-meter-step (closeGroup n) s = omega arith
-meter-step (admit n g f) s = omega arith
-meter-step (remove n) s = omega arith
-meter-step (wake n) s = omega arith
-meter-step dispatch s = omega arith
-meter-step (report reason used) s =
-    reported-cases (λ s′. s′ .meter ≡ s .meter + used) (s .running) reason used s (λ _. refl) (λ _ _. refl) (λ _ _. refl)
-meter-step (change n f) s = omega arith
 
 -- a wake leaves the list as it was
 pub woken-listed : (n : ℕ) (s : Scheduler) → listed (effect (wake n) s) ≡ listed s

@@ -5,7 +5,6 @@ pub mod Effects
 pub mod Rule
 pub mod Answers
 pub mod Accounts
-pub mod Stretch
 pub mod Tree
 pub mod Inner
 pub mod Batch

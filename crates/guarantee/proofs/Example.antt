@@ -8,15 +8,15 @@ use lib.ListN.{take, drop}
 use native.Mathlib.Omega.{arith}
 use lib.Dec.{T, lit<}
 use lib.IntN.{pos}
 use Rattle.scheduler.specs.declared.Scheduler.{Scheduler}
 use Rattle.scheduler.specs.State.{reservedAt, runnableAt, reservationAt, allotmentAt, withThread}
 use Rattle.scheduler.specs.Sound.{sound}
 use Rattle.scheduler.specs.Refusals.{Call, admit, wake, dispatch, report, change, startRefusal}
 use Rattle.scheduler.specs.Effects.{started}
-use Rattle.scheduler.specs.Stretch.{trace, final, allTicks, ticksBy, overrunsBeside, overrunsBy, Protected, Present, Owed}
-use Rattle.scheduler.specs.Stretch.{throughout, keepsRunnable, Unchanged, Second}
-use Rattle.scheduler.proofs.Computes.{computes}
-use Rattle.scheduler.proofs.Guarantee.{owed, second}
+use Rattle.guarantee.specs.Stretch.{trace, final, allTicks, ticksBy, overrunsBeside, overrunsBy, Protected, Present, Owed}
+use Rattle.guarantee.specs.Stretch.{throughout, keepsRunnable, Unchanged, Second}
+use Rattle.guarantee.proofs.Computes.{stretching}
+use Rattle.guarantee.proofs.Guarantee.{owed, second}
 
 -- the calls of the listing after its start
 calls : List Call
@@ -33,25 +33,25 @@ pub rest : List Call
 rest = drop 2 calls
 
 two-sound : T (sound two)
-unfolding computes calls two
+unfolding stretching calls two
 two-sound = tt
 
 seven : Protected two rest 7
-unfolding computes calls two rest
+unfolding stretching calls two rest
 seven = record { reserved = tt; runnable = tt; keeps = tt; unchanged = tt }
 
 five : Present two rest 5
-unfolding computes calls two rest
+unfolding stretching calls two rest
 five = record { reserved = tt; keeps = tt }
 
 -- W = 60000, S = 10000, S2 = 50000
 sums : (allTicks (two .running) (trace two rest) ≡ 60000) × (ticksBy 7 (two .running) (trace two rest) ≡ 10000)
     × (ticksBy 5 (two .running) (trace two rest) ≡ 50000)
-unfolding computes calls two rest
+unfolding stretching calls two rest
 sums = (refl, refl, refl)
 
 steady : Unchanged two rest 5
-unfolding computes calls two rest
+unfolding stretching calls two rest
 steady = tt
 
 pub shared : Owed two rest 7 × Second two rest 7 5
@@ -64,20 +64,20 @@ late : List Call
 late = admit 3 0 10 ∷ dispatch ∷ report 0 110 ∷ report 0 109 ∷ dispatch ∷ report 2 95 ∷ dispatch ∷ []
 
 answers : map (λ e. e .reply .answer) (trace (started 10 1000 9) late) ≡ 0 ∷ 0 ∷ 13 ∷ 0 ∷ 0 ∷ 0 ∷ 0 ∷ []
-unfolding computes late
+unfolding stretching late
 answers = refl
 
 slices : map (λ e. e .reply .slice) (trace (started 10 1000 9) late) ≡ 0 ∷ 100 ∷ 0 ∷ 0 ∷ 91 ∷ 0 ∷ 96 ∷ []
-unfolding computes late
+unfolding stretching late
 slices = refl
 
 -- O goes up to m − 1, so that m = 1 takes only 0
 limits : map (λ o. startRefusal 10 1000 o) (0 ∷ 9 ∷ 10 ∷ []) ≡ 0 ∷ 0 ∷ 1 ∷ []
-unfolding computes
+unfolding stretching
 limits = refl
 
 limits-one : map (λ o. startRefusal 1 1000 o) (0 ∷ 1 ∷ []) ≡ 0 ∷ 1 ∷ []
-unfolding computes
+unfolding stretching
 limits-one = refl
 
 -- The overruns cannot be left out. m = 10, P = 1, O = 9; 7 has 999 thousandths and 1 tick left, and 5, before it, 1 thousandth and its
@@ -101,15 +101,15 @@ pub overdue : List Call
 overdue = dispatch ∷ report 0 9 ∷ dispatch ∷ report 0 10 ∷ dispatch ∷ report 0 3 ∷ dispatch ∷ report 0 10 ∷ dispatch ∷ []
 
 tardy-sound : T (sound tardy)
-unfolding computes tardy
+unfolding stretching tardy
 tardy-sound = tt
 
 seven-late : Protected tardy overdue 7
-unfolding computes tardy overdue
+unfolding stretching tardy overdue
 seven-late = record { reserved = tt; runnable = tt; keeps = tt; unchanged = tt }
 
 five-late : Present tardy overdue 5
-unfolding computes tardy overdue
+unfolding stretching tardy overdue
 five-late = record { reserved = tt; keeps = tt }
 
 -- W = 32, S = 3, S2 = 29; V = V2 = 26, and the overruns of 7, which are 2, stand in neither
@@ -118,7 +118,7 @@ late-sums : (allTicks (tardy .running) (trace tardy overdue) ≡ 32) × (ticksBy
     × (overrunsBeside 7 (tardy .running) (trace tardy overdue) ≡ 26)
     × (overrunsBy 5 (tardy .running) (trace tardy overdue) ≡ 26)
     × (overrunsBy 7 (tardy .running) (trace tardy overdue) ≡ 2)
-unfolding computes tardy overdue
+unfolding stretching tardy overdue
 late-sums = (refl, refl, refl, refl, refl, refl)
 
 -- without V and V2 the limits are below f × W and f × S2
@@ -127,11 +127,11 @@ beyond = (lit< tt, lit< tt)
 
 -- both keep their debts: 5 has 1 − 10 + 10, and 7 has 1 − 3 + 9990
 debts : (allotmentAt (final tardy overdue) 5 ≡ 1) × (allotmentAt (final tardy overdue) 7 ≡ 9988)
-unfolding computes tardy overdue
+unfolding stretching tardy overdue
 debts = (refl, refl)
 
 steady-late : Unchanged tardy overdue 5
-unfolding computes tardy overdue
+unfolding stretching tardy overdue
 steady-late = tt
 
 pub shared-late : Owed tardy overdue 7 × Second tardy overdue 7 5
@@ -146,20 +146,20 @@ shifts =
     ∷ dispatch ∷ []
 
 shift-answers : map (λ e. e .reply .answer) (trace two shifts) ≡ 0 ∷ 0 ∷ 9 ∷ 0 ∷ 0 ∷ 5 ∷ 0 ∷ 0 ∷ 0 ∷ 0 ∷ []
-unfolding computes calls two shifts
+unfolding stretching calls two shifts
 shift-answers = refl
 
 shift-slices : map (λ e. e .reply .slice) (trace two shifts) ≡ 0 ∷ 20000 ∷ 0 ∷ 0 ∷ 0 ∷ 0 ∷ 0 ∷ 10000 ∷ 0 ∷ 10000 ∷ []
-unfolding computes calls two shifts
+unfolding stretching calls two shifts
 shift-slices = refl
 
 shift-allotments : (allotmentAt (final two (take 1 shifts)) 5 ≡ 30000) × (allotmentAt (final two (take 7 shifts)) 5 ≡ 10000)
     × (allotmentAt (final two shifts) 5 ≡ 90000)
-unfolding computes calls two shifts
+unfolding stretching calls two shifts
 shift-allotments = (refl, refl, refl)
 
 seven-beside : Protected two shifts 7
-unfolding computes calls two shifts
+unfolding stretching calls two shifts
 seven-beside = record { reserved = tt; runnable = tt; keeps = tt; unchanged = tt }
 
 pub shared-shifts : Owed two shifts 7
@@ -178,24 +178,24 @@ pub swings : List Call
 swings = swing ++ swing ++ swing ++ swing
 
 halves-sound : T (sound halves)
-unfolding computes halves
+unfolding stretching halves
 halves-sound = tt
 
 swing-kept : T (throughout (keepsRunnable 7) (halves .running) (trace halves swings))
-unfolding computes halves swing swings
+unfolding stretching halves swing swings
 swing-kept = tt
 
 swing-ends : reservationAt (final halves swings) 7 ≡ reservationAt halves 7
-unfolding computes halves swing swings
+unfolding stretching halves swing swings
 swing-ends = refl
 
 -- W = 2004, S = 4
 swing-sums : (allTicks (halves .running) (trace halves swings) ≡ 2004) × (ticksBy 7 (halves .running) (trace halves swings) ≡ 4)
-unfolding computes halves swing swings
+unfolding stretching halves swing swings
 swing-sums = (refl, refl)
 
 pub swing-starves : Owed halves swings 7 → ⊥
-unfolding computes halves swing swings
+unfolding stretching halves swing swings
 swing-starves h =
     let broken : 500 * 2004 ≤ 1000 * 4 + 500000 + 250000 + 0 = h in
     omega (arith, broken)
@@ -209,20 +209,20 @@ pub bulge : List Call
 bulge = change 5 500 ∷ dispatch ∷ report 0 1 ∷ dispatch ∷ report 0 500 ∷ dispatch ∷ report 0 500 ∷ change 5 1 ∷ []
 
 thin-sound : T (sound thin)
-unfolding computes thin
+unfolding stretching thin
 thin-sound = tt
 
 bulge-kept : Protected thin bulge 7 × Present thin bulge 5
-unfolding computes thin bulge
+unfolding stretching thin bulge
 bulge-kept = (record { reserved = tt; runnable = tt; keeps = tt; unchanged = tt }, record { reserved = tt; keeps = tt })
 
 bulge-ends : reservationAt (final thin bulge) 5 ≡ reservationAt thin 5
-unfolding computes thin bulge
+unfolding stretching thin bulge
 bulge-ends = refl
 
 -- S = 500, S2 = 501
 pub bulge-takes : Second thin bulge 7 5 → ⊥
-unfolding computes thin bulge
+unfolding stretching thin bulge
 bulge-takes h =
     let broken : 500 * 501 ≤ 1 * 500 + 1000 + 0 = h in
     omega (arith, broken)
@@ -230,7 +230,7 @@ bulge-takes h =
 -- So the guarantee fails with the reservation the same at both ends in the place of `Unchanged`: of x for the first limit,
 pub ends-not-enough : ((s : Scheduler) → T (sound s) → (cs : List Call) (x : ℕ) → T (reservedAt s x) → T (runnableAt s x)
     → T (throughout (keepsRunnable x) (s .running) (trace s cs)) → reservationAt (final s cs) x ≡ reservationAt s x → Owed s cs x) → ⊥
-unfolding computes halves
+unfolding stretching halves
 ends-not-enough h = swing-starves (h halves halves-sound swings 7 tt tt swing-kept swing-ends)
 
 -- and of y for the second.

@@ -9,18 +9,18 @@ use lib.Dec.{T, eqb}
 use borrow.Author.Tests.{eqb-true}
 use Rattle.base.proofs.Bools.{by, and-l, and-r}
 use Rattle.base.proofs.Lists.{sumOf, mask}
 use Rattle.scheduler.specs.declared.Scheduler.{Scheduler}
 use Rattle.scheduler.specs.State.{reservedAt, reservationAt, listed, sliceAt}
 use Rattle.scheduler.specs.Sound.{sound}
 use Rattle.scheduler.specs.Refusals.{Call, refusal}
 use Rattle.scheduler.specs.Effects.{chosen, effect}
 use Rattle.scheduler.specs.Rule.{Reply, isDispatch, accept, refuse, step}
-use Rattle.scheduler.specs.Stretch.{Event, trace, final, accepted, ticksOf, overrunOf, named, sumIn, ticksIn, overrunsIn}
-use Rattle.scheduler.specs.Stretch.{throughout, retains, keepsRunnable, keepsAdmitted}
+use Rattle.guarantee.specs.Stretch.{Event, trace, final, accepted, ticksOf, overrunOf, named, sumIn, ticksIn, overrunsIn}
+use Rattle.guarantee.specs.Stretch.{throughout, retains, keepsRunnable, keepsAdmitted}
 use Rattle.scheduler.proofs.Facts.{reserved-admitted}
 use Rattle.scheduler.proofs.Passed.{passes}
-use Rattle.scheduler.proofs.Share.Step.{potential, Guarded, StepBound, step-bound}
-use Rattle.scheduler.proofs.Share.Keep.{Held, held, running-named, runnable-admitted}
+use Rattle.guarantee.proofs.Step.{potential, Guarded, StepBound, step-bound}
+use Rattle.guarantee.proofs.Keep.{Held, held, running-named, runnable-admitted}
 
 -- y has a reservation of g
 pub record Reserved (g y : ℕ) (s : Scheduler) : Type 0 where

@@ -4,3 +4,6 @@ pub mod Keep
 pub mod Stretch
 pub mod Growth
 pub mod Unchanged
+pub mod Guarantee
+pub mod Computes
+pub mod Example

@@ -12,20 +12,20 @@ use borrow.Author.Tests.{eqb-true, eqb-false, ne-eqb, eq-eqb}
 use Rattle.base.specs.Lists.{member}
 use Rattle.base.proofs.Bools.{by, and-l, and-r, both, or-false-r}
 use Rattle.base.proofs.Lists.{sumOf, ahead, before, mask, ahead-sumOf, sumOf-le, sumOf-split, sumOf-once, ahead-none}
 use Rattle.scheduler.specs.declared.Scheduler.{Scheduler}
 use Rattle.scheduler.specs.State.{reservedAt, reservationAt, allotmentAt, listed, sliceAt}
 use Rattle.scheduler.specs.Sound.{sound}
 use Rattle.scheduler.specs.Refusals.{Call}
-use Rattle.scheduler.specs.Stretch.{Event, trace, final, accepted, ticksOf, named, sumIn, ticksIn, overrunsIn, anyone, allTicks}
-use Rattle.scheduler.specs.Stretch.{ticksBy, overrunsBeside, overrunsBy, throughout, keepsRunnable, keepsAdmitted, Protected, Present}
-use Rattle.scheduler.specs.Stretch.{Unchanged, Owed, Second}
+use Rattle.guarantee.specs.Stretch.{Event, trace, final, accepted, ticksOf, named, sumIn, ticksIn, overrunsIn, anyone, allTicks}
+use Rattle.guarantee.specs.Stretch.{ticksBy, overrunsBeside, overrunsBy, throughout, keepsRunnable, keepsAdmitted, Protected, Present}
+use Rattle.guarantee.specs.Stretch.{Unchanged, Owed, Second}
 use Rattle.scheduler.proofs.Facts.{Facts, facts, member-reserved, below-quantum, below-whole}
-use Rattle.scheduler.proofs.Share.Gauge.{gauge}
-use Rattle.scheduler.proofs.Share.Step.{weight, potential, Guarded}
-use Rattle.scheduler.proofs.Share.Keep.{runnable-admitted}
+use Rattle.guarantee.proofs.Gauge.{gauge}
+use Rattle.guarantee.proofs.Step.{weight, potential, Guarded}
+use Rattle.guarantee.proofs.Keep.{runnable-admitted}
 use Rattle.scheduler.proofs.Tree.{listed-most}
-use Rattle.scheduler.proofs.Share.Stretch.{Reserved, Bound, stretch}
-use Rattle.scheduler.proofs.Share.Growth.{punctual}
+use Rattle.guarantee.proofs.Stretch.{Reserved, Bound, stretch}
+use Rattle.guarantee.proofs.Growth.{punctual}
 
 -- ticks of all, in two parts
 ticks-split : (x last : ℕ) (es : List Event)

@@ -3,21 +3,21 @@
 use Prim.Native.Nat.{ℕ, zero, suc}
 use mathlib.Core.Path.{_≡_, refl, sym, ap, subst, _∙_}
 use mathlib.Core.List.{List, [], _∷_}
-use mathlib.Core.Bool.{Bool, true, false, not, cond, _||_}
+use mathlib.Core.Bool.{not, cond, _||_}
 use lib.ListN.{take}
 use lib.Dec.{T, eqb}
 use borrow.Author.Tests.{eqb-true, eq-eqb}
 use Rattle.base.proofs.Bools.{by, and-l, and-r, both, holds}
 use Rattle.scheduler.specs.declared.Scheduler.{Scheduler}
 use Rattle.scheduler.specs.State.{admittedAt, reservationAt}
 use Rattle.scheduler.specs.Refusals.{Call, openGroup, closeGroup, admit, remove, wake, dispatch, report, change, refusal}
 use Rattle.scheduler.specs.Effects.{chosen, effect}
 use Rattle.scheduler.specs.Rule.{isDispatch, accept, refuse, step}
-use Rattle.scheduler.specs.Stretch.{Event, trace, final, accepted, named, throughout, keepsAdmitted, retains, Unchanged, Present}
+use Rattle.guarantee.specs.Stretch.{Event, trace, final, accepted, named, throughout, keepsAdmitted, retains, Unchanged, Present}
 use Rattle.scheduler.proofs.Facts.{reserved-admitted}
 use Rattle.scheduler.proofs.ListRule.{change-entry}
-use Rattle.scheduler.proofs.Share.Keep.{held, running-named}
-use Rattle.scheduler.proofs.Share.Stretch.{Attributed, events, replied}
+use Rattle.guarantee.proofs.Keep.{held, running-named}
+use Rattle.guarantee.proofs.Stretch.{Attributed, events, replied}
 
 -- The reservation at each point, from `Unchanged`.
 

@@ -8,19 +8,31 @@ use native.Mathlib.Omega.{arith}
 use lib.Dec.{T, eqb}
 use borrow.Author.Tests.{eqb-true}
 use Rattle.base.proofs.Bools.{by, and-l, and-r}
 use Rattle.scheduler.specs.declared.Settings.{Settings}
 use Rattle.scheduler.specs.declared.Scheduler.{Scheduler}
-use Rattle.scheduler.specs.State.{threadAt, admittedAt, sliceAt, usedMost}
+use Rattle.scheduler.specs.State.{threadAt, admittedAt, sliceAt, usedMost, withThread, withGroup, withList, withRun}
 use Rattle.scheduler.specs.Refusals.{Call, openGroup, closeGroup, admit, remove, wake, dispatch, report, change, refusal}
-use Rattle.scheduler.specs.Effects.{chosen, effect}
+use Rattle.scheduler.specs.Effects.{toRear, offList, join, charged, exited, chosen, effect}
 use Rattle.scheduler.specs.Rule.{Reply, isDispatch, accept, refuse, step}
-use Rattle.scheduler.specs.Stretch.{Event, trace, final, accepted, ticksOf, overrunOf, named, sumIn, ticksIn, overrunsIn, anyone}
-use Rattle.scheduler.specs.Stretch.{allTicks, ticksBy, throughout, keepsAdmitted, Present}
+use Rattle.guarantee.specs.Stretch.{Event, trace, final, accepted, ticksOf, overrunOf, named, sumIn, ticksIn, overrunsIn, anyone}
+use Rattle.guarantee.specs.Stretch.{allTicks, ticksBy, throughout, keepsAdmitted, Present}
 use Rattle.scheduler.proofs.Facts.{reserved-admitted}
-use Rattle.scheduler.proofs.Passed.{passes, report-passed}
-use Rattle.scheduler.proofs.Steps.{meter-step}
-use Rattle.scheduler.proofs.Share.Keep.{settings-kept, held, running-named}
-use Rattle.scheduler.proofs.Share.Stretch.{Attributed, events, replied}
+use Rattle.scheduler.proofs.Passed.{passes, report-passed, reported-cases}
+use Rattle.guarantee.proofs.Keep.{settings-kept, held, running-named}
+use Rattle.guarantee.proofs.Stretch.{Attributed, events, replied}
+
+-- an accepted call raises the meter by the ticks of its report
+pub meter-step : (c : Call) (s : Scheduler) → (effect c s) .meter ≡ s .meter + ticksOf c
+unfolding effect ticksOf withThread withGroup withList withRun offList join toRear charged exited
+meter-step (openGroup n p c) s = omega arith
+meter-step (closeGroup n) s = omega arith
+meter-step (admit n g f) s = omega arith
+meter-step (remove n) s = omega arith
+meter-step (wake n) s = omega arith
+meter-step dispatch s = omega arith
+meter-step (report reason used) s =
+    reported-cases (λ s′. s′ .meter ≡ s .meter + used) (s .running) reason used s (λ _. refl) (λ _ _. refl) (λ _ _. refl)
+meter-step (change n f) s = omega arith
 
 -- W is the meter's growth over the stretch.
 pub meter-growth : (cs : List Call) (s : Scheduler) (last : ℕ) → s .meter + allTicks last (trace s cs) ≡ (final s cs) .meter

@@ -12,23 +12,23 @@ use Rattle.base.specs.Checks.{firstOf}
 use Rattle.base.specs.Lists.{member, without}
 use Rattle.base.proofs.Bools.{by, is, isn't, clash}
 use Rattle.base.proofs.Lists.{sumOf, mask, first-before}
 use Rattle.scheduler.specs.declared.Settings.{Settings}
 use Rattle.scheduler.specs.declared.Group.{Group}
 use Rattle.scheduler.specs.declared.Scheduler.{Scheduler}
 use Rattle.scheduler.specs.State.{noThread, noGroup, threadAt, admittedAt, blockedAt, runnableAt, reservedAt, reservationAt}
 use Rattle.scheduler.specs.State.{allotmentAt, quantum, listed, sliceAt, withThread, withGroup, withList, withRun}
 use Rattle.scheduler.specs.Refusals.{Call, openGroup, closeGroup, admit, remove, wake, dispatch, report, change, checks, refusal}
 use Rattle.scheduler.specs.Effects.{rear, toRear, offList, join, newThread, usedUp, renewed, chargedThread, charged, exited}
 use Rattle.scheduler.specs.Effects.{changedThread, reported, chosen, effect}
-use Rattle.scheduler.specs.Stretch.{keeps, retains, ticksOf, keepsRunnable}
+use Rattle.guarantee.specs.Stretch.{keeps, retains, ticksOf, keepsRunnable}
 use Rattle.scheduler.proofs.Debt.{used-most}
 use Rattle.scheduler.proofs.Facts.{Facts, facts, reserved-admitted, admitted-reserved, in-threads, member-reserved, below-quantum}
 use Rattle.scheduler.proofs.Facts.{fits, take-rear, take-off, room, listed-join, unlisted}
-use Rattle.scheduler.proofs.Share.Gauge.{gauge, gauge-join, gauge-leave, gauge-run, gauge-stay, gauge-off, gauge-rear, gauge-self}
-use Rattle.scheduler.proofs.Share.Gauge.{gauge-turn, gauge-cut, quiet-step, run-step, turn-step}
+use Rattle.guarantee.proofs.Gauge.{gauge, gauge-join, gauge-leave, gauge-run, gauge-stay, gauge-off, gauge-rear, gauge-self}
+use Rattle.guarantee.proofs.Gauge.{gauge-turn, gauge-cut, quiet-step, run-step, turn-step}
 use Rattle.scheduler.proofs.Steps.{allotment-other, slice-other, charged-left, charged-debt, woken-allotment, changed-allotment}
 use Rattle.scheduler.proofs.Passed.{passes, admit-passed, remove-passed, wake-passed, dispatch-passed, report-passed, ChangeOk}
 use Rattle.scheduler.proofs.Passed.{change-ok, reported-cases}
 
 -- the potential of x, with the threads that sel picks
 unfoldable pub weight : (ℕ → Bool) → ℕ → Scheduler → ℕ

@@ -8,18 +8,18 @@ use lib.ListN.{length}
 use lib.Dec.{T, ltb, eqb}
 use borrow.Author.Tests.{eqb-true, eqb-false, ne-eqb, eq-eqb}
 use Rattle.base.proofs.Bools.{by, is, isn't, clash}
 use Rattle.scheduler.specs.declared.Thread.{Thread}
 use Rattle.scheduler.specs.declared.Scheduler.{Scheduler}
 use Rattle.scheduler.specs.State.{noThread, threadAt, admittedAt, runnableAt, reservedAt, reservationAt, withThread, withGroup}
 use Rattle.scheduler.specs.State.{withList, withRun, isAdmitted, isReserved, isRunnable}
 use Rattle.scheduler.specs.Refusals.{Call, openGroup, closeGroup, admit, remove, wake, dispatch, report, change, refusal}
 use Rattle.scheduler.specs.Effects.{toRear, offList, join, newThread, wokenThread, chargedThread, charged, exited, reported, chosen}
 use Rattle.scheduler.specs.Effects.{changedThread, effect}
 use Rattle.scheduler.specs.Rule.{isDispatch}
-use Rattle.scheduler.specs.Stretch.{keeps, retains, ticksOf, keepsRunnable, keepsAdmitted}
+use Rattle.guarantee.specs.Stretch.{keeps, retains, ticksOf, keepsRunnable, keepsAdmitted}
 use Rattle.scheduler.proofs.Facts.{facts, in-threads, thread-other, thread-same}
-use Rattle.scheduler.proofs.Share.Gauge.{cond-zero}
+use Rattle.guarantee.proofs.Gauge.{cond-zero}
 use Rattle.scheduler.proofs.Passed.{passes, admit-passed, report-passed, reported-cases}
 
 pub settings-kept : (c : Call) (s : Scheduler) → (effect c s) .settings ≡ s .settings
 unfolding effect withThread withGroup withList withRun offList join toRear charged exited
