@@ -37,7 +37,7 @@ if [ "$build" = yes ]; then
     CARGO_TARGET_DIR=$root/target/cargo
     export CARGO_TARGET_DIR
     rt staticlib abi || fail "rt staticlib abi failed"
-    rt check mtrrun || fail "rt check mtrrun failed"
+    rt check || fail "rt check failed"
     cargo run --quiet --offline --release -p boundary -- --check || fail "the header or the Rust declarations are out of date"
     cargo build --quiet --offline --release -p journal || fail "journal can't be built"
 fi

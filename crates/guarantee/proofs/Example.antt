@@ -137,7 +137,7 @@ steady-late = tt
 pub shared-late : Owed tardy overdue 7 × Second tardy overdue 7 5
 shared-late = (owed tardy tardy-sound overdue 7 seven-late, second tardy tardy-sound overdue 7 5 seven-late five-late steady-late)
 
--- Changes: 5 goes from 500 to 300, which cuts its allotment to 30000, and to 900, which leaves what it has, until its next turn; 7 stays at
+-- Changes: 5 goes from 500 to 300, which cuts its allotment to 30000, and to 900, which leaves what it has until that is used up; 7 stays at
 -- 100, also by a change to 100. A change of the running thread is refused with 9, and 901 with 5: 600 are free, and 300 of its own.
 
 pub shifts : List Call

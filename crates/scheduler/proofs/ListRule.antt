@@ -190,6 +190,14 @@ wake-keeps n s e =
     let ok = passes (wake n) s e in
     (woken-listed n s, woken-allotment s (facts s (ok .0)) n (wake-passed s n (ok .1)))
 
+-- the entry after a change
+changed-at : (n d : ℕ) (s : Scheduler) → refusal (change n d) s ≡ 0 → threadAt (effect (change n d) s) n ≡ changedThread s d (threadAt s n)
+unfolding effect
+changed-at n d s e =
+    let ok = passes (change n d) s e in
+    let a = reserved-admitted s n ((change-ok s n d (ok .1)) .reserved) in
+    thread-same s n (changedThread s d (threadAt s n)) (in-threads s (facts s (ok .0)) n a)
+
 -- RULE 2.11: the list stays as it is, and so does every other entry; the allotment is the smaller of what it was and the new quantum.
 pub change-keeps : (n d : ℕ) (s : Scheduler) → refusal (change n d) s ≡ 0
     → (listed (effect (change n d) s) ≡ listed s)
@@ -319,10 +327,7 @@ yield-lag used s e =
 pub change-lag : (n d : ℕ) (s : Scheduler) → refusal (change n d) s ≡ 0
     → lagOf ((effect (change n d) s) .meter) (threadAt (effect (change n d) s) n) ≡ pos 0
 unfolding effect withThread changedThread lagOf
-change-lag n d s e =
-    let ok = passes (change n d) s e in
-    let a = reserved-admitted s n ((change-ok s n d (ok .1)) .reserved) in
-    rw (thread-same s n (changedThread s d (threadAt s n)) (in-threads s (facts s (ok .0)) n a)) (blocked (isBlocked (threadAt s n)))
+change-lag n d s e = rw (changed-at n d s e) (blocked (isBlocked (threadAt s n)))
   where
     blocked : (b : Bool) → cond b (pos 0) (subℕ (d * (s .meter - s .meter)) (1000 * 0)) ≡ pos 0
     blocked true = refl
@@ -340,9 +345,7 @@ pub change-entry : (n d : ℕ) (s : Scheduler) → refusal (change n d) s ≡ 0
     × ((threadAt (effect (change n d) s) n) .ticks ≡ (threadAt s n) .ticks)
 unfolding effect changedThread
 change-entry n d s e =
-    let ok = passes (change n d) s e in
-    let a = reserved-admitted s n ((change-ok s n d (ok .1)) .reserved) in
-    let q = thread-same s n (changedThread s d (threadAt s n)) (in-threads s (facts s (ok .0)) n a) in (
+    let q = changed-at n d s e in (
       ap (λ (t : Thread). t .reservation) q,
       ap (λ (t : Thread). t .anchor) q,
       ap (λ (t : Thread). t .since) q,
@@ -356,7 +359,4 @@ change-entry n d s e =
 pub change-share : (n d : ℕ) (s : Scheduler) → refusal (change n d) s ≡ 0
     → shareOf ((effect (change n d) s) .meter) (threadAt (effect (change n d) s) n) ≡ shareOf (s .meter) (threadAt s n)
 unfolding effect withThread changedThread shareOf
-change-share n d s e =
-    let ok = passes (change n d) s e in
-    let a = reserved-admitted s n ((change-ok s n d (ok .1)) .reserved) in
-    rw (thread-same s n (changedThread s d (threadAt s n)) (in-threads s (facts s (ok .0)) n a))
+change-share n d s e = rw (changed-at n d s e)

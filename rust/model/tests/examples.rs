@@ -1,5 +1,8 @@
 //! The worked examples of RULE 10, their edges, and programs that the rule excludes.
 
+mod common;
+
+use common::block;
 use model::accounts::Entry;
 use model::blocks::{check, kind, read_block, write_block, Record};
 use model::replay::{replay, Replayer};
@@ -43,12 +46,6 @@ fn report(reason: u8, ticks: u32) -> Record {
         ..Record::default()
     }
 }
-fn block(number: u32, records: &[Record]) -> [u8; 512] {
-    let mut area = [0xaa; 512];
-    assert_eq!(write_block(&mut area, number, records), 0);
-    area
-}
-
 fn listing() -> [u8; 512] {
     block(
         0,

@@ -1,23 +1,12 @@
 //! Timers that fire late: the overrun limit, debts and where they go.
 
+mod common;
+
+use common::{block, with, BLOCK, EXIT, TICK, YIELD};
 use model::blocks::{kind, read_block, write_block, Record};
 use model::calls::{record, Call};
 use model::replay::replay;
 use model::rule::{Scheduler, Settings, Thread, BLOCKED, METER_LIMIT, METER_MAX, NONE, RUNNABLE};
-
-const TICK: u64 = 0;
-const BLOCK: u64 = 1;
-const YIELD: u64 = 2;
-const EXIT: u64 = 3;
-
-/// Threads 1, 2 and on of these reservations in group 0.
-fn with(m: u64, p: u64, o: u64, reservations: &[u64]) -> Scheduler {
-    let mut s = Scheduler::start(m, p, o).unwrap();
-    for (n, &reservation) in reservations.iter().enumerate() {
-        assert_eq!(s.admit(n as u64 + 1, 0, reservation), 0);
-    }
-    s
-}
 
 /// Dispatches, expects a thread and its slice, and reports.
 fn run(s: &mut Scheduler, thread: u32, slice: u32, reason: u64, used: u64) -> u32 {
@@ -253,12 +242,6 @@ fn start(m: u16, p: u32, o: u16) -> Record {
         ticks: p,
         ..Record::default()
     }
-}
-
-fn block(number: u32, records: &[Record]) -> [u8; 512] {
-    let mut area = [0xaa; 512];
-    assert_eq!(write_block(&mut area, number, records), 0);
-    area
 }
 
 #[test]

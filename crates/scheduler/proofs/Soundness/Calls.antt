@@ -28,22 +28,13 @@ use Rattle.scheduler.proofs.Facts.{settings-facts, take-rear, take-off,
 use Rattle.scheduler.proofs.Facts.{unlisted}
 use Rattle.scheduler.proofs.Passed.{reported-cases, AdmitOk}
 use Rattle.scheduler.proofs.Steps.{chosen-runnable, charge-most, after-fits}
-use Rattle.scheduler.proofs.Soundness.Change.{changed-facts, shareOf}
+use Rattle.scheduler.proofs.Soundness.Change.{account-anew, changed-facts, shareOf}
 
 -- Wake, and everything else that changes one thread and not the list.
 
 fit-woken : (s : Scheduler) (t : Thread) → Fit t (s .settings .thousandth) → Fit (wokenThread s t) (s .settings .thousandth)
 unfolding wokenThread
 fit-woken s t k = record { positive = k .positive; at-most = k .at-most; some = k .some; bounded = k .bounded }
-
-account-woken : (s : Scheduler) (t : Thread) → Account t (s .meter) → Account (wokenThread s t) (s .meter)
-unfolding wokenThread
-account-woken s t k = record {
-  anchored = omega (arith, k .anchored, k .past);
-  past = le-refl (s .meter);
-  charged = k .charged;
-  since = omega arith;
-}
 
 -- a thread in the place of another passes the same test
 kept : (p : Thread → Bool) (s : Scheduler) (n : ℕ) (t : Thread) → n < length (s .threads) → T (p t) → (j : ℕ) → T (p (threadAt s j))
@@ -121,7 +112,7 @@ wake-facts s k n a =
     let own = admitted-reserved s n a in
     let q = k .thread n own in
     entry-facts s k n own t tt (omega arith) (q .in-group) (fit-woken s (threadAt s n) (q .fit))
-    (account-woken s (threadAt s n) (k .account n a))
+    (account-anew (threadAt s n) t (s .meter) refl refl refl refl (k .account n a))
     (λ g o. rw (is (isReserved (threadAt s n)) own) (omega (arith, carries s k g o)))
     (λ ne. runnable-kept s n t (omega (arith, q .small, k .threads64)) tt (s .running) ((k .run ne) .runnable))
 

@@ -31,6 +31,16 @@ account-later t meter meter′ le k = record {
   since = omega (arith, k .since);
 }
 
+-- a thread whose anchor is set
+pub account-anew : (t t′ : Thread) (meter : ℕ) → t′ .admission ≡ t .admission → t′ .ticks ≡ t .ticks → t′ .anchor ≡ meter → t′ .since ≡ 0
+    → Account t meter → Account t′ meter
+account-anew t t′ meter admission ticks anchor since k = record {
+  anchored = omega (arith, admission, anchor, k .anchored, k .past);
+  past = omega (arith, anchor);
+  charged = omega (arith, admission, ticks, k .charged);
+  since = omega (arith, since);
+}
+
 -- what a thread adds to the load of group g
 abbrev pub shareOf : Thread → ℕ → ℕ
 shareOf t g = cond (isReserved t && eqb (t .group) g) (t .reservation) 0

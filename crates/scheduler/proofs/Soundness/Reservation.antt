@@ -4,7 +4,7 @@ use Prim.Native.Nat.{ℕ, _+_, _-_, min, _≤_}
 use mathlib.Core.Path.{_≡_, refl, sym, subst}
 use mathlib.Core.Bool.{cond}
 use native.Mathlib.Omega.{arith}
-use native.Mathlib.Nat.{le-refl, mul-pos, min-le-right}
+use native.Mathlib.Nat.{mul-pos, min-le-right}
 use lib.Dec.{T, eqb}
 use borrow.Author.Tests.{eqb-true}
 use Rattle.base.proofs.Bools.{by, is}
@@ -17,9 +17,9 @@ use Rattle.scheduler.specs.State.{isRunnable}
 use Rattle.scheduler.specs.Sound.{load}
 use Rattle.scheduler.specs.Refusals.{change, free, roomFor}
 use Rattle.scheduler.specs.Effects.{changedThread, effect}
-use Rattle.scheduler.proofs.Facts.{Fit, Account, Facts, reserved-admitted, carries, settings-facts, thread-other}
+use Rattle.scheduler.proofs.Facts.{Fit, Facts, reserved-admitted, carries, settings-facts, thread-other}
 use Rattle.scheduler.proofs.Passed.{ChangeOk}
-use Rattle.scheduler.proofs.Soundness.Change.{shareOf}
+use Rattle.scheduler.proofs.Soundness.Change.{account-anew, shareOf}
 use Rattle.scheduler.proofs.Soundness.Calls.{entry-facts}
 
 least : (a b : ℕ) → 1 ≤ a → 1 ≤ b → 1 ≤ min a b
@@ -37,15 +37,6 @@ fit-changed s d t d1 d1000 m1 k =
       some = rw (cut-nat q (t .allotment)) (least a q (k .some) (mul-pos d1 m1));
       bounded = rw (cut-nat q (t .allotment)) (min-le-right a q);
     }
-
-account-changed : (s : Scheduler) (d : ℕ) (t : Thread) → Account t (s .meter) → Account (changedThread s d t) (s .meter)
-unfolding changedThread
-account-changed s d t k = record {
-  anchored = omega (arith, k .anchored, k .past);
-  past = le-refl (s .meter);
-  charged = k .charged;
-  since = omega arith;
-}
 
 change-room : (s : Scheduler) → Facts s → (n d : ℕ) → ChangeOk s n d
     → (j : ℕ) → T (openAt s j) → load s j + shareOf (changedThread s d (threadAt s n)) j ≤ (groupAt s j) .ceiling + shareOf (threadAt s n) j
@@ -69,7 +60,7 @@ change-facts s k n d ok =
     let m = settings-facts (s .settings) (k .settings) in
     entry-facts s k n (ok .reserved) t (ok .reserved) (k .status n (q .small)) (q .in-group)
     (fit-changed s d (threadAt s n) (ok .positive) (ok .at-most) (m .0) (q .fit))
-    (account-changed s d (threadAt s n) (k .account n (reserved-admitted s n (ok .reserved))))
+    (account-anew (threadAt s n) t (s .meter) refl refl refl refl (k .account n (reserved-admitted s n (ok .reserved))))
     (change-room s k n d ok)
     (λ ne.
     subst (λ (u : Thread). T (isRunnable u)) (sym (thread-other s n t (s .running) (λ z. ok .waits (sym z)))) ((k .run ne) .runnable))
