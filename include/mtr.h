@@ -1,5 +1,5 @@
 /*
- * The move-to-rear list scheduler (MTR-LS), version 2.1.0, for C11 and C++11 or
+ * The move-to-rear list scheduler (MTR-LS), version 2.1.1, for C11 and C++11 or
  * later on x86-64.
  *
  * Written from the Rattle sources; do not edit. To renew it:
@@ -145,7 +145,7 @@ extern "C" {
 MTR_STRUCT(size_t, 8, 8);
 
 /* The version as text. */
-#define MTR_VERSION_TEXT "2.1.0"
+#define MTR_VERSION_TEXT "2.1.1"
 
 /* The version; mtr_version answers that of the library. */
 
@@ -154,9 +154,9 @@ MTR_STRUCT(size_t, 8, 8);
 /* Minor. */
 #define MTR_VERSION_MINOR 1
 /* Patch. */
-#define MTR_VERSION_PATCH 0
+#define MTR_VERSION_PATCH 1
 /* One number: 10000 times the major, 100 times the minor, and the patch. */
-#define MTR_VERSION 20100
+#define MTR_VERSION 20101
 
 /* Numbers of threads and groups, and the parts of a block. */
 
@@ -828,7 +828,8 @@ MTR_MUST_USE static inline bool mtr_sound(const mtr_scheduler *state)
 }
 
 /*
- * The reservation of a priority: the priority plus 10.
+ * The reservation of a priority: the highest, 10, has 20; the normal one, 5,
+ * has 15; the lowest, 1, has 11.
  *
  * Refuses, the first that applies:
  *   4 MTR_REFUSED_AMOUNT: the priority is outside 1 to 10

@@ -21,7 +21,10 @@ fn row(name: &str, old: Side, new: Side) {
 
 /// The calls of one version that are timed.
 macro_rules! version {
-    ($name:ident, $raw:ident, $start:ident, $admit:ident, $dispatch:ident, $report:ident, $sound:ident, $write:ident, $read:ident) => {
+    (
+        $name:ident, $raw:ident, $start:ident, $admit:ident, $dispatch:ident, $report:ident, $sound:ident,
+        $write:ident, $read:ident, $priority:ident
+    ) => {
         mod $name {
             use super::*;
 
@@ -92,6 +95,15 @@ macro_rules! version {
                     black_box(&unsafe { $raw::$read(area.as_ptr(), area.len(), 7) });
                 })
             }
+
+            /// Each priority of the table, and the one on either side of it.
+            pub fn priorities() -> Side {
+                Box::new(|| {
+                    for priority in 0..12 {
+                        black_box($raw::$priority(black_box(priority)));
+                    }
+                })
+            }
         }
     };
 }
@@ -105,7 +117,8 @@ version!(
     old_by_value_report,
     old_by_value_sound,
     old_by_value_write_block,
-    old_by_value_read_block
+    old_by_value_read_block,
+    old_by_value_priority
 );
 version!(
     new,
@@ -116,7 +129,8 @@ version!(
     new_by_value_report,
     new_by_value_sound,
     new_by_value_write_block,
-    new_by_value_read_block
+    new_by_value_read_block,
+    new_by_value_priority
 );
 
 fn main() {
@@ -136,4 +150,5 @@ fn main() {
     }
     row("write a full block", old::write(), new::write());
     row("read a full block", old::read(), new::read());
+    row("twelve priorities", old::priorities(), new::priorities());
 }

@@ -1,6 +1,9 @@
 //! The documents name what is there: every section of docs/RULE.md that is
 //! cited exists, and so does every definition and theorem in docs/PROOFS.md.
+//! The published table of priorities is that of the code, the library and the model.
 
+use model::rule::priority;
+use mtr::{numbers, raw};
 use std::collections::BTreeSet;
 use std::fs;
 use std::path::{Path, PathBuf};
@@ -153,4 +156,81 @@ fn every_name_in_proofs_exists() {
         wrong.join("\n")
     );
     assert!(names > 50, "{names} names");
+}
+
+/// A line of the table: priority, reservation, and what the priority is named, empty where it has no name.
+type Line<'a> = (u64, u32, &'a str);
+
+/// The lines of a text after one that begins so and before the next that ends the part.
+fn part<'a>(text: &'a str, begin: &'a str, end: &'a str) -> impl Iterator<Item = &'a str> {
+    text.lines()
+        .skip_while(move |line| !line.starts_with(begin))
+        .skip(1)
+        .take_while(move |line| !line.starts_with(end))
+}
+
+/// The table in RULE 3.6: every line with a bar, the two of its head first.
+fn published(rule: &str) -> Vec<Line<'_>> {
+    let mut rows = part(rule, "**3.6 ", "#").filter(|line| line.contains('|'));
+    assert_eq!(rows.next(), Some("| priority | reservation | named |"));
+    assert_eq!(rows.next(), Some("|---|---|---|"));
+    rows.map(|row| {
+        let cells: Vec<&str> = row.split('|').map(str::trim).collect();
+        let ["", priority, reservation, name, ""] = cells[..] else {
+            panic!("no line of three cells: {row}");
+        };
+        (
+            priority.parse().unwrap(),
+            reservation.parse().unwrap(),
+            name,
+        )
+    })
+    .collect()
+}
+
+/// The table in the code: every case of the function but the last, which refuses.
+fn written<'a>(source: &'a str) -> Vec<Line<'a>> {
+    let cases: Vec<&str> = part(source, "pub fn reservation_of(", "}")
+        .filter(|line| line.contains("=>"))
+        .map(str::trim)
+        .collect();
+    let (refused, lines) = cases.split_last().unwrap();
+    assert_eq!(*refused, "_ => Mapping::Refused(OUTSIDE),");
+    let line = |case: &&'a str| {
+        let (priority, rest) = case.split_once(" => Mapping::Reservation(").unwrap();
+        let (reservation, comment) = rest.split_once("),").unwrap();
+        let name = comment.strip_prefix(" // ").unwrap_or(comment);
+        (
+            priority.parse().unwrap(),
+            reservation.parse().unwrap(),
+            name,
+        )
+    };
+    lines.iter().map(line).collect()
+}
+
+/// The published table is that of the code, the library and the model, with the three values that source document 000 names.
+#[test]
+fn the_table_of_priorities() {
+    let rule = read(&root().join("docs/RULE.md"));
+    let source = read(&root().join("crates/priority/src/lib.rt"));
+    let table = published(&rule);
+    assert_eq!(table, written(&source));
+
+    let priorities = table.iter().map(|line| line.0);
+    let ends = raw::LOWEST_PRIORITY..=raw::HIGHEST_PRIORITY;
+    assert_eq!(ends, 1..=10);
+    assert!(priorities.eq(ends.rev()), "{table:?}");
+    for &(p, reservation, _) in &table {
+        assert_eq!(numbers::priority(p).result(), Ok(reservation), "{p}");
+        assert_eq!(priority(p), Ok(reservation), "{p}");
+    }
+    let named: Vec<_> = table
+        .into_iter()
+        .filter(|line| !line.2.is_empty())
+        .collect();
+    assert_eq!(
+        named,
+        [(10, 20, "highest"), (5, 15, "normal"), (1, 11, "lowest")]
+    );
 }

@@ -25,6 +25,8 @@ fn a_million_calls() {
         assert_eq!(rare.count(), 0, "{name}: {counts:?}");
     }
     assert!(attack.idle > 100, "{} idle", attack.idle);
+    let priorities = attack.priorities;
+    assert!(priorities.iter().all(|&n| n > 100), "{priorities:?}");
     for (origin, [unsound, sound]) in ORIGINS.iter().zip(attack.states) {
         // Bytes all at random are never sound; the others are both, but for the last.
         assert_eq!(unsound > 1_000, *origin != "sound", "{origin}");

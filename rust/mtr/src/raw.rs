@@ -36,9 +36,9 @@ pub const VERSION_MAJOR: u32 = 2;
 /// Minor.
 pub const VERSION_MINOR: u32 = 1;
 /// Patch.
-pub const VERSION_PATCH: u32 = 0;
+pub const VERSION_PATCH: u32 = 1;
 /// One number: 10000 times the major, 100 times the minor, and the patch.
-pub const VERSION: u32 = 20100;
+pub const VERSION: u32 = 20101;
 
 // Numbers of threads and groups, and the parts of a block.
 
@@ -610,7 +610,8 @@ unsafe extern "C" {
     /// The state is unchanged.
     pub safe fn mtr_by_value_sound(state: Scheduler) -> u32;
 
-    /// The reservation of a priority: the priority plus 10.
+    /// The reservation of a priority: the highest, 10, has 20; the normal one,
+    /// 5, has 15; the lowest, 1, has 11.
     ///
     /// Refuses, the first that applies:
     /// - 4 [`REFUSED_AMOUNT`]: the priority is outside 1 to 10

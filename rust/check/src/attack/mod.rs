@@ -76,6 +76,8 @@ pub struct Attack {
     pub changes: Changes,
     /// Accepted dispatches that were idle.
     pub idle: u64,
+    /// By priority, from 0 to the first above the table.
+    pub priorities: [u64; 12],
     /// Lent areas by side and length.
     pub areas: [[u64; 2]; 2],
 }
@@ -94,6 +96,7 @@ impl Attack {
             late: Late::default(),
             changes: Changes::default(),
             idle: 0,
+            priorities: [0; 12],
             areas: [[0; 2]; 2],
         }
     }
@@ -163,6 +166,9 @@ impl Attack {
                     reservation,
                 };
                 self.same(function, format_args!("{number}"), found, wanted);
+                if let Some(count) = self.priorities.get_mut(number as usize) {
+                    *count += 1;
+                }
                 answer
             }
             11 => {
