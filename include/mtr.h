@@ -828,8 +828,8 @@ MTR_MUST_USE static inline bool mtr_sound(const mtr_scheduler *state)
 }
 
 /*
- * The reservation of a priority: the highest, 10, has 20; the normal one, 5,
- * has 15; the lowest, 1, has 11.
+ * The reservation of a priority: the highest, 10, has 20, each one below it one
+ * less; the normal one, 5, has 15; the lowest, 1, has 11.
  *
  * Refuses, the first that applies:
  *   4 MTR_REFUSED_AMOUNT: the priority is outside 1 to 10

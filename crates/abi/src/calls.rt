@@ -167,8 +167,8 @@ pub extern "C" fn mtr_by_value_sound(state: Scheduler) -> u32
     if state.sound() { 1 } else { 0 }
 }
 
-// The reservation of a priority: the highest, 10, has 20; the normal one, 5, has 15; the lowest, 1, has 11. Refused: 4, the priority is
-// outside 1 to 10. It takes no state, so that any is unchanged.
+// The reservation of a priority: the highest, 10, has 20, each one below it one less; the normal one, 5, has 15; the lowest, 1, has 11.
+// Refused: 4, the priority is outside 1 to 10. It takes no state, so that any is unchanged.
 #[no_mangle]
 pub extern "C" fn mtr_by_value_priority(priority: u64) -> Mapped
     ensures { λ r. ⌜ r ≡ mappedOut (mappingOf priority) ⌝ }

@@ -610,8 +610,8 @@ unsafe extern "C" {
     /// The state is unchanged.
     pub safe fn mtr_by_value_sound(state: Scheduler) -> u32;
 
-    /// The reservation of a priority: the highest, 10, has 20; the normal one,
-    /// 5, has 15; the lowest, 1, has 11.
+    /// The reservation of a priority: the highest, 10, has 20, each one below
+    /// it one less; the normal one, 5, has 15; the lowest, 1, has 11.
     ///
     /// Refuses, the first that applies:
     /// - 4 [`REFUSED_AMOUNT`]: the priority is outside 1 to 10

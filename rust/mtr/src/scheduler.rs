@@ -333,8 +333,9 @@ fn start(settings: Settings) -> raw::Reply {
     )
 }
 
-/// The reservation of a priority of 1 to 10: the highest, 10, has 20; the normal
-/// one, 5, has 15; the lowest, 1, has 11. Refused with [`Amount`](Refusal::Amount).
+/// The reservation of a priority of 1 to 10: the highest, 10, has 20, each one
+/// below it one less; the normal one, 5, has 15; the lowest, 1, has 11. Refused
+/// with [`Amount`](Refusal::Amount).
 ///
 /// ```
 /// assert_eq!(mtr::reservation_of(5), Ok(15));
