@@ -3,7 +3,7 @@
 use mathlib.Core.Path.{_≡_, refl, sym, _∙_, ap, subst}
 use mathlib.Core.Bool.{Bool, cond}
 use Prim.Native.Nat.{ℕ, zero, suc, _+_, _-_, _*_, _/_, _^_, _<_, _≤_}
-use native.Mathlib.Nat.{mul-le-mul-right, div-le-of-le-mul}
+use native.Mathlib.Nat.{mul-le-mul-right}
 use native.Mathlib.Omega.{arith}
 use borrow.Author.Tests.{ltb-true, eq-eqb, ne-eqb}
 use lib.Dec.{ltb, eqb}
@@ -14,6 +14,7 @@ use mir.Val.{SFits, toZ, ofZ}
 use mir.Facts.{toZ-ofZ}
 use Rattle.base.proofs.Bools.{by}
 use Rattle.base.proofs.Signed.{pos-sub, mag-sub, small}
+use Rattle.rounding.proofs.Theorems.{rounded-most}
 use Rattle.scheduler.specs.declared.Thread.{Thread}
 use Rattle.scheduler.specs.State.{meterMost}
 use Rattle.scheduler.specs.Accounts.{lagOf, shareOf}
@@ -84,11 +85,6 @@ module _ (meter : ℕ) (t : Thread) (h : Bounded meter t) where
   pub lag-bits : (r : ℤ) → r ≡ lagOf meter t → toZ w64 (ofZ w64 r) ≡ lagOf meter t
   lag-bits r e = ap (λ (z : ℤ). toZ w64 (ofZ w64 z)) e ∙ toZ-ofZ lag-fits
 
-  pub quotient-most : 1000 * t .ticks / (meter - t .admission) ≤ 1000
-  quotient-most = div-le-of-le-mul (meter - t .admission) (omega (arith, h .used))
-
   pub share-most : shareOf meter t ≤ 1000
   unfolding shareOf
-  share-most =
-      by (λ b. cond b 0 (1000 * t .ticks / (meter - t .admission)) ≤ 1000) (eqb (meter - t .admission) 0) (λ _. omega arith)
-      (λ _. quotient-most)
+  share-most = rounded-most (1000 * t .ticks) (meter - t .admission) 1000 (omega (arith, h .used))

@@ -1,6 +1,7 @@
 // The figures of one thread, from its record and the meter.
 use crate::Lag;
 use crate::Share;
+use rounding::nearest;
 use scheduler::Scheduler;
 use scheduler::Thread;
 use scheduler::refusal;
@@ -27,11 +28,7 @@ pub(crate) fn share_of(t: Thread, meter: u64) -> u32
     requires { ⌜ Bounded meter t ⌝ }
     ensures { λ r. ⌜ r ≡ shareOf meter t ⌝ }
 {
-    let growth = meter - t.admission;
-    if growth == 0 {
-        return 0;
-    }
-    (1000 * t.ticks / growth) as u32
+    nearest(1000 * t.ticks, meter - t.admission) as u32
 }
 
 // An admitted thread of a sound state, or the refusal.

@@ -26,12 +26,28 @@ fn lag_of(t: &Thread, meter: u64) -> i64 {
     due as i64 - had as i64
 }
 
+/// The whole number nearest to parts ÷ whole, half to even; `whole` is not 0.
+/// Of the two numbers beside the quotient it is the one whose product with
+/// `whole` is nearer to `parts`, and the even one where both are as near.
+#[inline]
+fn nearest(parts: u128, whole: u128) -> u128 {
+    let rank = |n: u128| (parts.abs_diff(n * whole), n % 2);
+    let low = parts / whole;
+    let high = low + 1;
+    if rank(low) < rank(high) {
+        low
+    } else {
+        high
+    }
+}
+
 /// Achieved share of an admitted thread of a sound state: at most 1000.
 #[inline]
 fn share_of(t: &Thread, meter: u64) -> u64 {
-    (1000 * t.ticks)
-        .checked_div(meter - t.admission)
-        .unwrap_or(0)
+    match meter - t.admission {
+        0 => 0,
+        growth => nearest(1000 * t.ticks as u128, growth as u128) as u64,
+    }
 }
 
 impl Scheduler {
@@ -52,7 +68,8 @@ impl Scheduler {
     }
 
     /// 1000 × ticks since admission divided by the meter's growth since then,
-    /// rounded down, and 0 without growth. 16 and 7 as in [`Scheduler::lag`].
+    /// to the nearest whole number, half to even, and 0 without growth. 16 and 7
+    /// as in [`Scheduler::lag`].
     pub fn share(&self, number: u64) -> Result<u64, u32> {
         self.account(number).map(|t| share_of(t, self.meter))
     }

@@ -332,7 +332,7 @@ fn the_accounts() {
     assert_eq!((s.lag(1), s.lag(2)), (Ok(-6_000_000), Ok(9_000_000)));
     runs(&mut s, 2, 10_000, TICK, 10_000);
     assert_eq!((s.lag(1), s.lag(2)), (Ok(-2_000_000), Ok(2_000_000)));
-    assert_eq!((s.share(1), s.share(2)), (Ok(833), Ok(166)));
+    assert_eq!((s.share(1), s.share(2)), (Ok(833), Ok(167)));
     let allotments = (s.threads[1].allotment, s.threads[2].allotment);
     assert_eq!(allotments, (40_000, 30_000));
 }

@@ -98,7 +98,7 @@ fn the_listing() {
     assert_eq!(s.lag(5), Ok(-4_000_000));
     assert_eq!(s.lag(7), Ok(-4_000_000));
     assert_eq!(s.share(5), Ok(833));
-    assert_eq!(s.share(7), Ok(166));
+    assert_eq!(s.share(7), Ok(167));
     assert_eq!(s.lag(6), Err(7));
     assert_eq!(s.share(64), Err(7));
     let mark = Entry {
@@ -123,7 +123,7 @@ fn the_listing() {
         number: 7,
         state: 2,
         allotment: 10_000,
-        share: 166,
+        share: 167,
         lag: -4_000_000,
     };
     assert_eq!(table, [five, seven, mark]);

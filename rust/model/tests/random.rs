@@ -10,8 +10,10 @@ use model::random::{any_record, broken_states, call, hostile_state, journal, sou
 use model::replay::{replay, replay_from, replay_from_with, replay_with};
 use model::rule::{Reply, Scheduler, METER_MAX, NONE};
 
+mod common;
 mod plain;
 mod wrong;
+use common::is_share;
 use plain::{
     directly, failing, plain_replay, plain_replay_by, plainly, plainly_sound, report_on_time, slice,
 };
@@ -326,6 +328,8 @@ fn old_journals() {
 #[test]
 fn accounts_of_sound_states() {
     let mut r = Rng::new(6);
+    // Shares by where they lie: at the quotient, below it, above it; and halves.
+    let (mut places, mut halves) = ([0u32; 3], 0);
     for _ in 0..5_000 {
         let s = sound_state(&mut r);
         let mark = Entry {
@@ -354,13 +358,14 @@ fn accounts_of_sound_states() {
                 t.reservation as i128 * (s.meter as i128 - t.anchor as i128)
                     - 1000 * t.since as i128
             };
-            let growth = s.meter as u128 - t.admission as u128;
-            let share = (1000 * t.ticks as u128).checked_div(growth).unwrap_or(0);
             assert_eq!(row.lag as i128, lag);
-            assert_eq!(row.share as u128, share);
-            assert!(share <= 1000);
             assert_eq!(s.lag(n), Ok(row.lag));
-            assert_eq!(s.share(n), Ok(row.share as u64));
+            let (share, growth) = (row.share as u64, s.meter - t.admission);
+            assert!(is_share(share, t.ticks, growth) && share <= 1000);
+            assert_eq!(s.share(n), Ok(share));
+            let (shown, exact) = (share as u128 * growth as u128, 1000 * t.ticks as u128);
+            places[(shown < exact) as usize + 2 * (shown > exact) as usize] += 1;
+            halves += (growth > 0 && 2 * shown.abs_diff(exact) == growth as u128) as u32;
             assert_eq!(row.allotment, t.allotment);
             let state = if s.running == row.number {
                 2
@@ -381,6 +386,8 @@ fn accounts_of_sound_states() {
             assert!(short.iter().all(|e| *e == mark));
         }
     }
+    assert!(places.iter().all(|&n| n > 10_000), "{places:?}");
+    assert!(halves > 20, "{halves}");
 }
 
 /// Now and then a call that would end a premise is replaced: ticks are mostly

@@ -20,6 +20,19 @@ pub fn with(m: u64, p: u64, o: u64, reservations: &[u64]) -> Scheduler {
     s
 }
 
+/// Whether this is the share of a thread with these ticks since its admission,
+/// the meter having grown by `growth` since then. Twice the distance from
+/// share × growth to 1000 × ticks is at most the growth, and where it is the
+/// growth the share is even. Without growth the share is 0.
+pub fn is_share(share: u64, ticks: u64, growth: u64) -> bool {
+    let (share, ticks, growth) = (share as u128, ticks as u128, growth as u128);
+    if growth == 0 {
+        return share == 0;
+    }
+    let off = 2 * (share * growth).abs_diff(1000 * ticks);
+    off < growth || off == growth && share.is_multiple_of(2)
+}
+
 /// The block of a number with these records.
 pub fn block(number: u32, records: &[Record]) -> [u8; 512] {
     let mut area = [0xaa; 512];
