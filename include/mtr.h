@@ -1,5 +1,5 @@
 /*
- * The move-to-rear list scheduler (MTR-LS), version 2.1.1, for C11 and C++11 or
+ * The move-to-rear list scheduler (MTR-LS), version 2.2.0, for C11 and C++11 or
  * later on x86-64.
  *
  * Written from the Rattle sources; do not edit. To renew it:
@@ -79,8 +79,8 @@
  *     mtr_priority            16               8
  *     mtr_subtree           8252            6647
  *     mtr_lag              11224            4545
- *     mtr_share            11216            4544
- *     mtr_roster           14600           30904
+ *     mtr_share            11216            4550
+ *     mtr_roster           14600           31288
  *     mtr_write_block        824            3195
  *     mtr_read_block        1220            3817
  */
@@ -145,18 +145,18 @@ extern "C" {
 MTR_STRUCT(size_t, 8, 8);
 
 /* The version as text. */
-#define MTR_VERSION_TEXT "2.1.1"
+#define MTR_VERSION_TEXT "2.2.0"
 
 /* The version; mtr_version answers that of the library. */
 
 /* Major. */
 #define MTR_VERSION_MAJOR 2
 /* Minor. */
-#define MTR_VERSION_MINOR 1
+#define MTR_VERSION_MINOR 2
 /* Patch. */
-#define MTR_VERSION_PATCH 1
+#define MTR_VERSION_PATCH 0
 /* One number: 10000 times the major, 100 times the minor, and the patch. */
-#define MTR_VERSION 20101
+#define MTR_VERSION 20200
 
 /* Numbers of threads and groups, and the parts of a block. */
 
@@ -890,7 +890,8 @@ MTR_MUST_USE static inline mtr_answer mtr_lag(const mtr_scheduler *state,
 
 /*
  * A thread's achieved share: its ticks since admission in thousandths of the
- * meter's growth since then, rounded down; 0 if it has not grown.
+ * meter's growth since then, rounded to the nearest, half to even; 0 if it has
+ * not grown.
  *
  * Refuses, the first that applies:
  *   16 MTR_REFUSED_UNSOUND: the state is not sound

@@ -39,7 +39,8 @@ pub extern "C" fn mtr_by_value_lag(state: Scheduler, number: u64) -> LagLine
     }
 }
 
-// A thread's achieved share: its ticks since admission in thousandths of the meter's growth since then, rounded down; 0 if it has not grown.
+// A thread's achieved share: its ticks since admission in thousandths of the meter's growth since then, rounded to the nearest, half to
+// even; 0 if it has not grown.
 // Refused: 16, the state is not sound; 7, the number is above 63 or not admitted. The state is unchanged.
 #[no_mangle]
 pub extern "C" fn mtr_by_value_share(state: Scheduler, number: u64) -> ShareLine

@@ -4,9 +4,9 @@ ghost use Rattle.abi.specs.Version.{version};
 
 pub const MAJOR: u32 = 2;
 
-pub const MINOR: u32 = 1;
+pub const MINOR: u32 = 2;
 
-pub const PATCH: u32 = 1;
+pub const PATCH: u32 = 0;
 
 // The library's version as one number: 10000 times the major, 100 times the minor, and the patch. Refused: nothing. It takes no state, so
 // that any is unchanged.

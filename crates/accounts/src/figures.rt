@@ -28,7 +28,9 @@ pub(crate) fn share_of(t: Thread, meter: u64) -> u32
     requires { ⌜ Bounded meter t ⌝ }
     ensures { λ r. ⌜ r ≡ shareOf meter t ⌝ }
 {
-    nearest(1000 * t.ticks, meter - t.admission) as u32
+    let ticks = t.ticks;
+    let growth = meter - t.admission;
+    nearest(1000 * ticks, growth) as u32
 }
 
 // An admitted thread of a sound state, or the refusal.

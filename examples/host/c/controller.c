@@ -397,6 +397,16 @@ static void print_roster(const host *h)
             table[i].allotment, table[i].lag, table[i].share);
 }
 
+/* A part in thousandths of the whole, to the nearest, half to even, as the roster has its shares; 0 of nothing. */
+static uint64_t thousandths(uint64_t part, uint64_t whole)
+{
+    if (whole == 0)
+        return 0;
+    uint64_t quotient = 1000 * part / whole, rest = 1000 * part % whole;
+    int stays = 2 * rest < whole || (2 * rest == whole && quotient % 2 == 0);
+    return quotient + !stays;
+}
+
 /* The debts; then for each stretch readout's reservation, the ticks of all threads, and readout's thousandths of them. */
 static void print_figures(const world *w)
 {
@@ -405,7 +415,7 @@ static void print_figures(const world *w)
             printf("debt %u %" PRId32 " %" PRId32 "\n", n, w->debts[n].owed, w->debts[n].left);
     for (unsigned i = 0; i <= w->stretch; i++)
         printf("readout %d %" PRIu64 " %" PRIu64 "\n", i == 1 ? RAISED : tasks[READOUT].reservation, w->all[i],
-            w->all[i] == 0 ? 0 : 1000 * w->own[i] / w->all[i]);
+            thousandths(w->own[i], w->all[i]));
 }
 
 /* Reads a whole number, decimal. */

@@ -9,6 +9,7 @@ use crate::changes::Changes;
 use crate::compare::{both, sound, start, to_library, to_library_record, to_model_entry};
 use crate::guard::{Guarded, Side};
 use crate::late::Late;
+use crate::share::Shares;
 use model::accounts::Entry;
 use model::blocks::{check, fields, kind, read_block, write_block, Record, BLOCK, RECORDS};
 use model::calls::{self, record, recorded, Call};
@@ -187,12 +188,14 @@ fn listed(mut bytes: Bytes) -> Vec<u8> {
     journal
 }
 
-/// What a replay printed, and what occurred of overruns and changes in it.
+/// What a replay printed, what occurred of overruns and changes in it, and the
+/// shares at its end.
 #[derive(Clone, Debug, Default, PartialEq, Eq)]
 pub struct Replayed {
     pub printed: String,
     pub late: Late,
     pub changes: Changes,
+    pub shares: Shares,
 }
 
 /// Replays a journal by the library's functions and by the model. Each block's reading, each call's answer and state and
@@ -223,7 +226,7 @@ pub fn replay(journal: &[u8]) -> Replayed {
     }
     if let Some(state) = &state {
         roster(&mut page, state);
-        accounts(state);
+        accounts(state, &mut all.shares);
     }
     assert_eq!(all.printed.as_bytes(), model::replay::replay(journal));
     all
@@ -309,7 +312,7 @@ fn roster(page: &mut Guarded, s: &Scheduler) {
 }
 
 /// Soundness, and the lag and the share of every number.
-fn accounts(s: &Scheduler) {
+fn accounts(s: &Scheduler, shares: &mut Shares) {
     assert!(sound(s));
     let state = to_library(s);
     for number in 0..=64 {
@@ -317,5 +320,8 @@ fn accounts(s: &Scheduler) {
         assert_eq!(numbers::lag(state, number).result(), lag);
         let found = numbers::share(state, number).result();
         assert_eq!(found.map(u64::from), share);
+        if let Ok(share) = share {
+            shares.share(s, number as usize, share);
+        }
     }
 }

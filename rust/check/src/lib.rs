@@ -2,6 +2,7 @@
 //!
 //! - [`compare`]: a call on both sides, asserted equal.
 //! - [`bytes`]: the bytes that cross the boundary.
+//! - [`share`]: a share by its meaning, and what occurred of shares.
 //! - [`late`]: what occurred of overruns.
 //! - [`changes`]: what occurred of changes of a reservation.
 //! - [`program`]: `mtrrun`, run as it was built.
@@ -25,4 +26,5 @@ pub mod guard;
 pub mod journal;
 pub mod late;
 pub mod program;
+pub mod share;
 pub mod stack;

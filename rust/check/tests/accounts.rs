@@ -3,6 +3,7 @@
 use check::changes::Changes;
 use check::compare::{both, start, to_library, to_model_entry};
 use check::late::Late;
+use check::share::to_nearest;
 use model::accounts::Entry;
 use model::calls::Call;
 use model::random::{call, edge_value, hostile_state, sound_state, Rng};
@@ -56,9 +57,10 @@ fn plainly(s: &Scheduler, number: usize) -> (i128, u128) {
     } else {
         t.reservation as i128 * growth - 1000 * t.since as i128
     };
-    let growth = (s.meter - t.admission) as u128;
-    let share = (1000 * t.ticks as u128).checked_div(growth).unwrap_or(0);
-    (lag, share)
+    (
+        lag,
+        to_nearest(t.ticks as u128, (s.meter - t.admission) as u128),
+    )
 }
 
 #[test]
@@ -187,9 +189,7 @@ impl Account {
     }
 
     fn share(&self) -> i128 {
-        (1000 * self.ticks[0])
-            .checked_div(self.growth[0])
-            .unwrap_or(0)
+        to_nearest(self.ticks[0] as u128, self.growth[0] as u128) as i128
     }
 
     fn anchor(&mut self) {

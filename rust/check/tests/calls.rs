@@ -316,7 +316,7 @@ fn listing() {
     assert_eq!(report(&mut s, 0, 18_000), 0);
     assert_eq!(both(&mut s, Call::Dispatch), dispatched(7, 10_000, 0));
     let state = to_library(&s);
-    for (number, share) in [(5, 833), (7, 166)] {
+    for (number, share) in [(5, 833), (7, 167)] {
         assert_eq!(numbers::lag(state, number).result(), Ok(-4_000_000));
         assert_eq!(numbers::share(state, number).result(), Ok(share));
     }

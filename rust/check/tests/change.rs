@@ -522,7 +522,7 @@ fn the_worked_example() {
     run(&mut s, 7, TICK, 10_000);
     s = tried.change(&s, 5, 100);
     assert_eq!((s.threads[5].allotment, lag(&s, 5)), (10_000, Ok(0)));
-    assert_eq!(numbers::share(to_library(&s), 5).result(), Ok(777));
+    assert_eq!(numbers::share(to_library(&s), 5).result(), Ok(778));
     accepted(&mut s, Call::Wake { number: 5 });
     let reply = accepted(&mut s, Call::Dispatch);
     assert_eq!((reply.thread, reply.slice, reply.before), (5, 10_000, 0));

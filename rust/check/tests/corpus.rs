@@ -5,6 +5,7 @@ use check::changes::Changes;
 use check::journal::{self, case};
 use check::late::Late;
 use check::program::{printed, root};
+use check::share::Shares;
 use model::blocks::read_block;
 use std::path::Path;
 use std::process::Command;
@@ -39,6 +40,7 @@ fn the_corpus() {
     let mut answers = [0u32; 21];
     let mut refused = [0u32; 21];
     let (mut late, mut changes) = (Late::default(), Changes::default());
+    let mut shares = Shares::default();
     for (place, recipe) in &recipes {
         let case = case(recipe);
         let wanted = journal::replay(&case.journal);
@@ -46,6 +48,7 @@ fn the_corpus() {
         assert!(found == wanted.printed.as_bytes(), "{place}");
         late.join(&wanted.late);
         changes.join(&wanted.changes);
+        shares.join(wanted.shares);
         for line in wanted.printed.lines() {
             let words: Vec<&str> = line.split(' ').collect();
             match words[..] {
@@ -65,6 +68,9 @@ fn the_corpus() {
     // Changes of every sort: that cut, that leave the allotment, with 4, with 5 for one thousandth, with 7 and with 9.
     println!("{changes:?}");
     assert!(changes.rarer(1).is_empty(), "{changes:?}");
+    // Shares rounded either way, halves too.
+    println!("{shares:?}");
+    assert!(shares.all(1), "{shares:?}");
 }
 
 /// What a journal prints.

@@ -44,6 +44,9 @@ fn a_million_calls() {
     // Changes that cut, that leave the allotment, of every thread and group, to the thousandth and beyond it.
     let changes = attack.changes;
     assert!(changes.rarer(20).is_empty(), "{changes:?}");
+    // Shares rounded either way, halves too.
+    let shares = attack.shares;
+    assert!(shares.all(100), "{shares:?}");
     // At either guard page, areas of some length and of none.
     assert!(
         attack.areas.iter().flatten().all(|&n| n > 100),

@@ -91,7 +91,7 @@ pub fn lag(state: Scheduler, number: u64) -> LagLine {
     raw::mtr_by_value_lag(state, number)
 }
 
-/// A thread's achieved share in thousandths.
+/// A thread's achieved share in thousandths, to the nearest, half to even.
 #[inline]
 pub fn share(state: Scheduler, number: u64) -> ShareLine {
     raw::mtr_by_value_share(state, number)

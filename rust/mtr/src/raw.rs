@@ -34,11 +34,11 @@ macro_rules! layout {
 /// Major.
 pub const VERSION_MAJOR: u32 = 2;
 /// Minor.
-pub const VERSION_MINOR: u32 = 1;
+pub const VERSION_MINOR: u32 = 2;
 /// Patch.
-pub const VERSION_PATCH: u32 = 1;
+pub const VERSION_PATCH: u32 = 0;
 /// One number: 10000 times the major, 100 times the minor, and the patch.
-pub const VERSION: u32 = 20101;
+pub const VERSION: u32 = 20200;
 
 // Numbers of threads and groups, and the parts of a block.
 
@@ -641,7 +641,8 @@ unsafe extern "C" {
     pub safe fn mtr_by_value_lag(state: Scheduler, number: u64) -> LagLine;
 
     /// A thread's achieved share: its ticks since admission in thousandths of
-    /// the meter's growth since then, rounded down; 0 if it has not grown.
+    /// the meter's growth since then, rounded to the nearest, half to even; 0
+    /// if it has not grown.
     ///
     /// Refuses, the first that applies:
     /// - 16 [`REFUSED_UNSOUND`]: the state is not sound

@@ -244,7 +244,8 @@ impl Scheduler {
     }
 
     /// A thread's ticks since its admission, in thousandths of the meter's
-    /// growth since then. Refused with [`NoThread`](Refusal::NoThread).
+    /// growth since then, to the nearest, half to even; 0 if it has not grown.
+    /// Refused with [`NoThread`](Refusal::NoThread).
     pub fn share(&self, thread: u8) -> Result<u32, Refusal> {
         let share = numbers::share(self.state, thread.into());
         accepted(share.answer)?;

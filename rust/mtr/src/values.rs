@@ -103,7 +103,8 @@ pub struct Entry {
     /// Thousandths of ticks that it is behind its reservation; below 0 it is
     /// ahead.
     pub lag: i64,
-    /// Thousandths of the meter since its admission.
+    /// Thousandths of the meter since its admission, to the nearest, half to
+    /// even.
     pub share: u32,
 }
 

@@ -108,7 +108,7 @@ fn listing_by_methods() -> Result<(), Refusal> {
 
     assert_eq!((s.meter(), s.list()), (60_000, &[7, 5][..]));
     assert_eq!((s.lag(5)?, s.lag(7)?), (-4_000_000, -4_000_000));
-    assert_eq!((s.share(5)?, s.share(7)?), (833, 166));
+    assert_eq!((s.share(5)?, s.share(7)?), (833, 167));
     assert!(s.is_sound());
     Ok(())
 }
@@ -127,7 +127,7 @@ fn listing_by_events() {
     wanted[12] = Err(Refusal::OverSlice);
     wanted[14] = Ok(Some(run(7, 10_000, 0)));
     assert_eq!(seen, wanted);
-    assert_eq!((s.lag(5), s.share(7)), (Ok(-4_000_000), Ok(166)));
+    assert_eq!((s.lag(5), s.share(7)), (Ok(-4_000_000), Ok(167)));
 }
 
 #[test]
@@ -150,7 +150,7 @@ fn roster_of_the_listing() {
     };
     let wanted = [
         entry(5, ThreadState::Runnable, 50_000, 833),
-        entry(7, ThreadState::Running, 10_000, 166),
+        entry(7, ThreadState::Running, 10_000, 167),
     ];
     assert_eq!(s.roster(&mut table), Ok(&wanted[..]));
     assert_eq!(table[2..], [mark; 2]);
@@ -455,7 +455,7 @@ fn changes_of_the_lag() {
     s.report(Reason::Tick, 20_000).unwrap();
     assert_eq!(s.dispatch(), Ok(run(7, 10_000, 0)));
     s.report(Reason::Tick, 10_000).unwrap();
-    assert_eq!((s.share(5), s.share(7)), (Ok(833), Ok(166)));
+    assert_eq!((s.share(5), s.share(7)), (Ok(833), Ok(167)));
     assert_eq!((s.meter(), s.lag(7)), (60_000, Ok(-2_000_000)));
 }
 

@@ -22,6 +22,17 @@ pub struct Stretch {
     pub own: u64,
 }
 
+/// A part in thousandths of the whole, to the nearest, half to even, as the
+/// roster has its shares; 0 of nothing.
+fn thousandths(part: u64, whole: u64) -> u64 {
+    if whole == 0 {
+        return 0;
+    }
+    let (quotient, rest) = (1000 * part / whole, 1000 * part % whole);
+    let stays = 2 * rest < whole || (2 * rest == whole && quotient % 2 == 0);
+    quotient + u64::from(!stays)
+}
+
 /// Makes calls, journals each one and prints its answer.
 pub struct Host {
     scheduler: Scheduler,
@@ -120,7 +131,7 @@ impl Host {
         }
         for stretch in stretches {
             let (reservation, all) = (stretch.reservation, stretch.all);
-            let share = (1000 * stretch.own).checked_div(all).unwrap_or(0);
+            let share = thousandths(stretch.own, all);
             writeln!(self.out, "readout {reservation} {all} {share}")?;
         }
         Ok(())

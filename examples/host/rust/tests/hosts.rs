@@ -109,6 +109,14 @@ fn settings() -> Settings {
     }
 }
 
+/// Of the whole numbers up to 1000 the one whose product with the whole is nearest to 1000 × part, the even one of two.
+fn thousandths(part: i64, whole: i64) -> i64 {
+    let distance = |share: i64| (share * whole - 1000 * part).abs();
+    (0..=1000)
+        .min_by_key(|&share| (distance(share), share % 2))
+        .unwrap()
+}
+
 /// What readout is owed in a stretch of a journal in which its reservation f is the same: f × W − 1000 × S, W and S from the stretch's
 /// beginning on.
 #[derive(Debug, Default)]
@@ -148,7 +156,7 @@ impl Owed {
 
     /// Thousandths of the stretch's ticks.
     fn share(&self) -> i64 {
-        1000 * self.ticks[0] / self.ticks[1]
+        thousandths(self.ticks[0], self.ticks[1])
     }
 }
 
@@ -345,7 +353,7 @@ fn readout(owed: &[Owed], roster: &[Vec<i64>], stretches: &[Vec<i64>]) {
     assert_eq!(roster.len(), 5);
     let row = roster.iter().find(|row| row[0] == READOUT as i64).unwrap();
     let sum = |i: usize| owed.iter().map(|stretch| stretch.ticks[i]).sum::<i64>();
-    let share = 1000 * sum(0) / sum(1);
+    let share = thousandths(sum(0), sum(1));
     // The lag is that since the last change, the share that since the admission.
     assert_eq!(row[2..], [after.last, share]);
     assert!(share >= 500, "{share}");

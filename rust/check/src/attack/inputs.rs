@@ -44,6 +44,21 @@ fn sound(r: &mut Rng) -> Scheduler {
     s
 }
 
+/// Sets a thread's ticks, and the meter at its admission, so that its share is a number and a half, or a tick beside
+/// that. The lag begins anew.
+pub(super) fn near_half(r: &mut Rng, state: &mut raw::Scheduler, number: u64) {
+    let most = state.meter / 2000;
+    let Some(t) = state.threads.get_mut(number as usize) else {
+        return;
+    };
+    if most > 0 {
+        let unit = r.edgy(1, most);
+        t.admission = state.meter - 2000 * unit;
+        t.ticks = (2 * r.below(1000) + 1) * unit + r.below(3) - 1;
+        (t.anchor, t.since) = (state.meter, 0);
+    }
+}
+
 /// A sound state with some bytes changed.
 fn changed(r: &mut Rng) -> raw::Scheduler {
     let mut whole = bytes::state(&sound_state(r));

@@ -14,10 +14,11 @@ use crate::compare::{made, to_library, to_model, to_model_entry, to_model_record
 use crate::faults;
 use crate::guard::{Guarded, Side};
 use crate::late::Late;
+use crate::share::Shares;
 use classes::{allotment, limit};
 use inputs::{
     any_block, any_bytes, any_call, any_length, any_records, any_side, any_state, argument,
-    settings,
+    near_half, settings,
 };
 use model::blocks::{read_block, write_block};
 use model::calls::apply;
@@ -74,6 +75,8 @@ pub struct Attack {
     pub late: Late,
     /// What occurred of changes.
     pub changes: Changes,
+    /// Shares that were asked for one by one.
+    pub shares: Shares,
     /// Accepted dispatches that were idle.
     pub idle: u64,
     /// By priority, from 0 to the first above the table.
@@ -95,6 +98,7 @@ impl Attack {
             allotments: [[0; 2]; 9],
             late: Late::default(),
             changes: Changes::default(),
+            shares: Shares::default(),
             idle: 0,
             priorities: [0; 12],
             areas: [[0; 2]; 2],
@@ -195,13 +199,20 @@ impl Attack {
             }
             13 => {
                 let number = argument(r, 63);
+                if r.chance(1, 4) {
+                    near_half(r, state, number);
+                }
+                let s = to_model(state);
                 let found = raw::mtr_by_value_share(*state, number);
-                let (answer, share) = split(to_model(state).share(number));
+                let (answer, share) = split(s.share(number));
                 let wanted = ShareLine {
                     answer,
                     share: share as u32,
                 };
                 self.same(function, format_args!("{number} {state:?}"), found, wanted);
+                if answer == 0 {
+                    self.shares.share(&s, number as usize, share);
+                }
                 answer
             }
             14 => self.roster(r, state),

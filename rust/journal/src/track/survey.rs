@@ -1,6 +1,7 @@
 //! What a journal or a part of it holds on the whole. The picture is laid out
 //! by it, and the figures are taken from it.
 
+use std::cmp::Ordering;
 use std::collections::BTreeMap;
 
 use crate::codec::{GROUPS, THREADS};
@@ -35,6 +36,20 @@ pub struct Greatest {
     pub at: u64,
     pub record: u64,
     pub bound: i64,
+}
+
+/// Ticks in thousandths of a time, to the nearest, half to even, as the library
+/// rounds a share; 0 of no time.
+fn thousandths(ticks: u64, time: u64) -> u64 {
+    if time == 0 {
+        return 0;
+    }
+    let (quotient, rest) = (1000 * ticks / time, 1000 * ticks % time);
+    match (2 * rest).cmp(&time) {
+        Ordering::Less => quotient,
+        Ordering::Equal => quotient + quotient % 2,
+        Ordering::Greater => quotient + 1,
+    }
 }
 
 /// What a thread reserved in a life.
@@ -313,7 +328,7 @@ impl Sink for Survey {
         t.end = Some(life.end);
         let time = life.to - life.from.time;
         let ticks = std::mem::take(&mut t.ticks_now);
-        t.share = (1000 * ticks).checked_div(time).unwrap_or(0);
+        t.share = thousandths(ticks, time);
         let mut largest = std::mem::take(&mut t.largest_now);
         if largest.lag == 0 {
             largest.bound = life.bound;

@@ -124,7 +124,7 @@ fn the_listing_shows_runs_a_wake_refusals_and_lags() {
     assert!(svg.contains("record 12 refused: 13, more used than the slice"));
     assert!(svg.contains(">12, 13<"));
     // Shares, bounds and largest lags.
-    for text in ["833 ‰", "166 ‰", "60 ms", "20 ms", "5 ms", "3.2 ms"] {
+    for text in ["833 ‰", "167 ‰", "60 ms", "20 ms", "5 ms", "3.2 ms"] {
         assert!(svg.contains(&format!(">{text}<")), "{text}");
     }
 }

@@ -42,7 +42,7 @@ fn figures_of_the_listing() {
         "thread 5 32.000 3 10.000 8 5.000 42.000 60.000 8 %"
     );
     let seven = lines(&text, "thread 7");
-    assert_eq!(seven[0], "thread 7 0 100 166 2 0 0 1 running");
+    assert_eq!(seven[0], "thread 7 0 100 167 2 0 0 1 running");
     assert_eq!(
         seven[1],
         "thread 7 10.000 7 32.000 2 3.200 32.000 20.000 16 %"
@@ -89,6 +89,72 @@ fn figures_of_runs_beyond_their_slices() {
     let without = on_time.replace(" overrun 9", "");
     let text = self::figures(&encode(&without)).text("on time", &Names::default());
     assert!(text.contains("m 10, P 1000, 1 start") && !text.contains("overrun"));
+}
+
+/// Of 2000 ticks thread 1 has some, and thread 2 the others.
+fn sparse(ticks: u64, last: &str) -> Vec<u8> {
+    encode(&format!(
+        "start thousandth 100 interval 20000\nadmit 1 group 0 reservation 500\n\
+        admit 2 group 0 reservation 100\ndispatch\nreport block {ticks}\n\
+        dispatch\nreport tick {}\n{last}",
+        2000 - ticks
+    ))
+}
+
+/// The shares of threads 1 and 2.
+fn shares(figures: &Figures) -> [u64; 2] {
+    let csv = figures.csv(&Names::default());
+    let mut rows = csv
+        .lines()
+        .skip(1)
+        .map(|row| row.split(',').nth(4).unwrap());
+    [(); 2].map(|()| rows.next().unwrap().parse().unwrap())
+}
+
+/// To the nearest thousandth, half to even: at the end, of a life that is over,
+/// and within a part, whose figures the library does not have.
+#[test]
+fn shares_are_rounded() {
+    let wanted = [
+        [0, 1000],
+        [0, 1000],
+        [1, 999],
+        [2, 998],
+        [2, 998],
+        [2, 998],
+        [3, 997],
+        [4, 996],
+    ];
+    for (ticks, wanted) in (0u64..).zip(wanted) {
+        for last in [
+            "",
+            "remove 1\n",
+            "remove 1\nremove 2\n",
+            "start thousandth 1 interval 1\n",
+        ] {
+            assert_eq!(
+                shares(&figures(&sparse(ticks, last))),
+                wanted,
+                "{ticks} {last}"
+            );
+        }
+    }
+    for (ticks, wanted) in [
+        (0, [0, 1000]),
+        (1, [62, 938]),
+        (2, [125, 875]),
+        (3, [188, 812]),
+    ] {
+        let journal = sparse(ticks, "");
+        let view = View {
+            from: None,
+            to: Some(Mark::Time(16)),
+            threads: Vec::new(),
+        };
+        let part = Journal::whole(&journal);
+        let figures = stats::<Proved>(part, &view, &mut Progress::silent()).unwrap();
+        assert_eq!(shares(&figures), wanted, "{ticks}");
+    }
 }
 
 #[test]
@@ -218,7 +284,7 @@ fn the_command_takes_names_and_parts() {
     let text = String::from_utf8(output.stdout).unwrap();
     assert!(text.starts_with(&format!("{blocks}\n")));
     assert!(text.contains("\npart from 32 ms to 60 ms, 7 records, 28.000 ms of processor time"));
-    assert!(lines(&text, "5 detector")[0].starts_with("5 detector 0 500 642 "));
+    assert!(lines(&text, "5 detector")[0].starts_with("5 detector 0 500 643 "));
     assert!(lines(&text, "7 valve")[0].starts_with("7 valve 0 100 357 "));
     let output = run(
         &["stats", "--csv", "--refusals", "--thread", "5", &blocks],

@@ -81,7 +81,7 @@ fn a_part_of_the_listing() {
     assert!(svg.contains("thread 5 has the core from 42 ms to 60 ms, from record 10"));
     assert!(svg.contains("thread 7 has the core from 32 ms to 42 ms, from record 7"));
     assert_eq!(svg.matches("thread 5 has the core").count(), 1);
-    assert!(svg.contains(">share here<") && svg.contains(">642 ‰<"));
+    assert!(svg.contains(">share here<") && svg.contains(">643 ‰<"));
     assert!(svg.contains("record 11 refused: 12"));
 
     // The same by times; cut spans keep their lag.

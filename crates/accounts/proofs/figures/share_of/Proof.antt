@@ -6,24 +6,24 @@ use Rattle.accounts.proofs.Signed.{share-most}
 use Rattle.accounts.proofs.figures.share_of.Statement.{statement}
 use Rattle.accounts.proofs.figures.share_of.Tie as tie
 
-cast-result : tie.Need-cast-result
-unfolding shareOf
-cast-result c =
-    let s = c .before .before .before in
-    record { fits = omega (arith, c .nearest .ensures, share-most (s .args .meter) (s .args .t) (s .pre)) }
-
 returns : tie.Need-returns
 unfolding shareOf
 returns c = c .nearest .ensures
 
+cast-result : tie.Need-cast-result
+unfolding shareOf
+cast-result c =
+    let s = c .before .before in
+    record { fits = omega (arith, c .nearest .ensures, share-most (s .args .meter) (s .args .t) (s .pre)) }
+
+sub-growth : tie.Need-sub-growth
+sub-growth c = search needs
+
 mul-nearest : tie.Need-mul-nearest
 mul-nearest c = search needs
-
-sub-nearest : tie.Need-sub-nearest
-sub-nearest c = search needs
 
 nearest-requires : tie.Need-nearest-requires
 nearest-requires c κs = search needs
 
 pub share-of-spec : {M : Type 1} → statement M
-share-of-spec = tie.close (tie.spec mul-nearest sub-nearest nearest-requires cast-result returns)
+share-of-spec = tie.close (tie.spec sub-growth mul-nearest nearest-requires cast-result returns)
