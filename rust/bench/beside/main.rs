@@ -23,7 +23,7 @@ fn row(name: &str, old: Side, new: Side) {
 macro_rules! version {
     (
         $name:ident, $raw:ident, $start:ident, $admit:ident, $dispatch:ident, $report:ident, $sound:ident,
-        $write:ident, $read:ident, $priority:ident
+        $write:ident, $read:ident, $priority:ident, $share:ident, $roster:ident
     ) => {
         mod $name {
             use super::*;
@@ -51,6 +51,36 @@ macro_rules! version {
                 let state = threads(n);
                 Box::new(move || {
                     black_box($raw::$sound(*black_box(&state)));
+                })
+            }
+
+            /// After some runs, so that every thread has a share.
+            fn grown(n: u64) -> $raw::Scheduler {
+                let mut state = threads(n);
+                for used in 0..1000 {
+                    let run = $raw::$dispatch(state);
+                    let used = u64::from(run.slice).min(1000 + used);
+                    state = $raw::$report(run.state, 0, used).state;
+                }
+                state
+            }
+
+            pub fn share(n: u64) -> Side {
+                let state = grown(n);
+                Box::new(move || {
+                    black_box($raw::$share(*black_box(&state), black_box(n - 1)));
+                })
+            }
+
+            pub fn roster(n: u64) -> Side {
+                let state = grown(n);
+                let mut table = [$raw::Entry::default(); 64];
+                Box::new(move || {
+                    let table = black_box(&mut table);
+                    // SAFETY: the table is borrowed for the call and has this length.
+                    black_box(unsafe {
+                        $raw::$roster(*black_box(&state), table.as_mut_ptr(), table.len())
+                    });
                 })
             }
 
@@ -118,7 +148,9 @@ version!(
     old_by_value_sound,
     old_by_value_write_block,
     old_by_value_read_block,
-    old_by_value_priority
+    old_by_value_priority,
+    old_by_value_share,
+    old_by_value_roster
 );
 version!(
     new,
@@ -130,7 +162,9 @@ version!(
     new_by_value_sound,
     new_by_value_write_block,
     new_by_value_read_block,
-    new_by_value_priority
+    new_by_value_priority,
+    new_by_value_share,
+    new_by_value_roster
 );
 
 fn main() {
@@ -147,6 +181,12 @@ fn main() {
             old::sound(n),
             new::sound(n),
         );
+    }
+    for n in [2, 16, 64] {
+        row(&format!("share, {n}"), old::share(n), new::share(n));
+    }
+    for n in [2, 16, 64] {
+        row(&format!("roster, {n}"), old::roster(n), new::roster(n));
     }
     row("write a full block", old::write(), new::write());
     row("read a full block", old::read(), new::read());
