@@ -19,7 +19,7 @@ pub fn to_nearest(ticks: u128, growth: u128) -> u128 {
 /// growth, and where it is the growth the share is even.
 pub fn is_nearest(share: u128, ticks: u128, growth: u128) -> bool {
     let twice = 2 * (share * growth).abs_diff(1000 * ticks);
-    twice < growth || twice == growth && share % 2 == 0
+    twice < growth || twice == growth && share.is_multiple_of(2)
 }
 
 /// Shares by how they were rounded.

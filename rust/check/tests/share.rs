@@ -115,8 +115,8 @@ fn edges_at_the_largest_meter() {
     for growth in growths {
         let ticks = edges(growth);
         assert!(ticks.len() > 9_990);
-        let least = shares_of(&mut s, METER_MAX - growth, growth, &ticks);
-        assert_eq!(shares_of(&mut s, 0, growth, &ticks), least);
+        let late = shares_of(&mut s, METER_MAX - growth, growth, &ticks);
+        assert_eq!(shares_of(&mut s, 0, growth, &ticks), late);
     }
     // k and a half of 10^13, exactly, and a tick on either side.
     for k in 0..1000 {

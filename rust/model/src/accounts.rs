@@ -28,10 +28,11 @@ fn lag_of(t: &Thread, meter: u64) -> i64 {
 
 /// The whole number nearest to parts ÷ whole, half to even; `whole` is not 0.
 /// Of the two numbers beside the quotient it is the one whose product with
-/// `whole` is nearer to `parts`, and the even one where both are as near.
+/// `whole` is nearer to `parts`, and the even one where both are as near. No
+/// product of a share exceeds 1001 × the largest meter.
 #[inline]
-fn nearest(parts: u128, whole: u128) -> u128 {
-    let rank = |n: u128| (parts.abs_diff(n * whole), n % 2);
+fn nearest(parts: u64, whole: u64) -> u64 {
+    let rank = |n: u64| (parts.abs_diff(n * whole), n % 2);
     let low = parts / whole;
     let high = low + 1;
     if rank(low) < rank(high) {
@@ -46,7 +47,7 @@ fn nearest(parts: u128, whole: u128) -> u128 {
 fn share_of(t: &Thread, meter: u64) -> u64 {
     match meter - t.admission {
         0 => 0,
-        growth => nearest(1000 * t.ticks as u128, growth as u128) as u64,
+        growth => nearest(1000 * t.ticks, growth),
     }
 }
 

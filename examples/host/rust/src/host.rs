@@ -137,3 +137,24 @@ impl Host {
         Ok(())
     }
 }
+
+#[cfg(test)]
+mod tests {
+    use super::thousandths;
+
+    /// Twice the distance is at most the whole, and where it is the whole the
+    /// number is even.
+    #[test]
+    fn rounds_to_the_nearest() {
+        assert_eq!(thousandths(0, 0), 0);
+        assert_eq!((thousandths(1, 2000), thousandths(3, 2000)), (0, 2));
+        for whole in 1..=300 {
+            for part in 0..=whole {
+                let shown = thousandths(part, whole);
+                let twice = 2 * (shown * whole).abs_diff(1000 * part);
+                let even = shown.is_multiple_of(2);
+                assert!(twice < whole || twice == whole && even, "{part} of {whole}");
+            }
+        }
+    }
+}

@@ -1,57 +1,23 @@
 //! The host in C and the host in Rust: the same journal, byte by byte, and `mtrrun` prints for it what both were answered.
 
+mod common;
+
+use common::{c_source, compiled, root, run, scratch, thousandths};
 use mtr::{blocks, Event, Reason, Settings};
 use std::collections::BTreeMap;
 use std::fs;
 use std::path::{Path, PathBuf};
-use std::process::{Command, Output, Stdio};
+use std::process::{Command, Stdio};
 use std::sync::OnceLock;
 
-fn root() -> PathBuf {
-    PathBuf::from(env!("CARGO_MANIFEST_DIR")).join("../../..")
-}
-
-fn scratch(name: &str) -> PathBuf {
-    Path::new(env!("CARGO_TARGET_TMPDIR")).join(name)
-}
-
-/// The host in C, compiled as its first comment says, with every warning an error.
+/// The host in C.
 fn c_host() -> &'static Path {
     static PROGRAM: OnceLock<PathBuf> = OnceLock::new();
-    PROGRAM.get_or_init(|| {
-        let program = scratch("controller-c");
-        let done = Command::new("cc")
-            .args([
-                "-std=c11",
-                "-Wall",
-                "-Wextra",
-                "-Werror",
-                "-pedantic",
-                "-O2",
-            ])
-            .arg("-I")
-            .arg(root().join("include"))
-            .arg(root().join("examples/host/c/controller.c"))
-            .arg(root().join("target/staticlib/libabi.a"))
-            .arg("-o")
-            .arg(&program)
-            .output()
-            .unwrap();
-        assert!(
-            done.status.success(),
-            "{}",
-            String::from_utf8_lossy(&done.stderr)
-        );
-        program
-    })
+    PROGRAM.get_or_init(|| compiled(&c_source(), "controller-c"))
 }
 
 fn rust_host() -> &'static Path {
     Path::new(env!("CARGO_BIN_EXE_controller"))
-}
-
-fn run(host: &Path, words: &[&str]) -> Output {
-    Command::new(host).args(words).output().unwrap()
 }
 
 /// What both hosts say of a method change that comes too early.
@@ -107,14 +73,6 @@ fn settings() -> Settings {
         overrun: 50,
         ..Settings::default()
     }
-}
-
-/// Of the whole numbers up to 1000 the one whose product with the whole is nearest to 1000 × part, the even one of two.
-fn thousandths(part: i64, whole: i64) -> i64 {
-    let distance = |share: i64| (share * whole - 1000 * part).abs();
-    (0..=1000)
-        .min_by_key(|&share| (distance(share), share % 2))
-        .unwrap()
 }
 
 /// What readout is owed in a stretch of a journal in which its reservation f is the same: f × W − 1000 × S, W and S from the stretch's
