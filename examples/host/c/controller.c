@@ -83,8 +83,7 @@ static mtr_answer call(host *h, mtr_record r, mtr_run *run)
 {
     *run = (mtr_run){ 0, 0, 0 };
     const mtr_answer answer = make(&h->state, &r, run);
-    h->list.records[h->count] = r;
-    h->count += 1;
+    h->list.records[h->count++] = r;
     if (h->count == MTR_RECORDS)
         flush_block(h);
     printf("%" PRIu64 " %u %" PRIu32 " %" PRIu32 " %" PRIu32 "\n", h->record, (unsigned)answer, run->thread, run->slice,
@@ -193,8 +192,7 @@ typedef struct debt {
 } debt;
 
 typedef struct world {
-    uint64_t clock;
-    uint64_t random;
+    uint64_t clock, random;
     /* Ticks left of each task's burst, and when it is woken. */
     uint32_t left[TASKS];
     uint64_t due[TASKS];
@@ -362,12 +360,11 @@ static void simulate(host *h, world *w, uint64_t end)
         /* A step at each quarter of the run. Nothing runs here. */
         while (w->steps < 3 && w->clock >= (w->steps + 1) * (end / 4))
             steps[w->steps++](h, w);
-        for (unsigned n = 0; n < TASKS; n++) {
+        for (unsigned n = 0; n < TASKS; n++)
             if (w->due[n] <= w->clock) {
                 must(wake(h, (uint8_t)n));
                 w->due[n] = NEVER;
             }
-        }
         mtr_run choice;
         must(dispatch(h, &choice));
         if (choice.thread == MTR_NO_THREAD) {
@@ -375,8 +372,7 @@ static void simulate(host *h, world *w, uint64_t end)
             w->clock = next_due(w);
             continue;
         }
-        dispatches += 1;
-        if (dispatches % 16 == 0)
+        if (++dispatches % 16 == 0)
             confuse(h, (uint8_t)choice.thread, choice.slice);
         run(h, w, choice.thread, choice.slice);
     }
@@ -384,11 +380,8 @@ static void simulate(host *h, world *w, uint64_t end)
 
 static void print_roster(const host *h)
 {
-    static const char *const states[] = {
-        [MTR_ROSTER_RUNNABLE] = "runnable",
-        [MTR_ROSTER_BLOCKED] = "blocked",
-        [MTR_ROSTER_RUNNING] = "running",
-    };
+    static const char *const states[] = { [MTR_ROSTER_RUNNABLE] = "runnable", [MTR_ROSTER_BLOCKED] = "blocked",
+        [MTR_ROSTER_RUNNING] = "running" };
     mtr_entry table[MTR_THREADS];
     size_t filled;
     must(mtr_roster(&h->state, table, MTR_THREADS, &filled));
@@ -400,11 +393,8 @@ static void print_roster(const host *h)
 /* A part in thousandths of the whole, to the nearest, half to even, as the roster has its shares; 0 of nothing. */
 static uint64_t thousandths(uint64_t part, uint64_t whole)
 {
-    if (whole == 0)
-        return 0;
-    uint64_t quotient = 1000 * part / whole, rest = 1000 * part % whole;
-    int stays = 2 * rest < whole || (2 * rest == whole && quotient % 2 == 0);
-    return quotient + !stays;
+    uint64_t quotient = whole == 0 ? 0 : 1000 * part / whole, twice = 2 * (1000 * part - quotient * whole);
+    return quotient + (twice > whole || (twice == whole && quotient % 2 == 1));
 }
 
 /* The debts; then for each stretch readout's reservation, the ticks of all threads, and readout's thousandths of them. */
