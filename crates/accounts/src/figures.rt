@@ -30,7 +30,9 @@ pub(crate) fn share_of(t: Thread, meter: u64) -> u32
 {
     let ticks = t.ticks;
     let growth = meter - t.admission;
-    nearest(1000 * ticks, growth) as u32
+    let parts = 1000 * ticks;
+    let share = nearest(parts, growth);
+    share as u32
 }
 
 // An admitted thread of a sound state, or the refusal.

@@ -8,7 +8,7 @@ use Rattle.accounts.proofs.figures.share_of.Tie as tie
 
 returns : tie.Need-returns
 unfolding shareOf
-returns c = c .nearest .ensures
+returns c = omega (arith, c .nearest .ensures)
 
 cast-result : tie.Need-cast-result
 unfolding shareOf
@@ -19,11 +19,11 @@ cast-result c =
 sub-growth : tie.Need-sub-growth
 sub-growth c = search needs
 
-mul-nearest : tie.Need-mul-nearest
-mul-nearest c = search needs
+mul-parts : tie.Need-mul-parts
+mul-parts c = search needs
 
 nearest-requires : tie.Need-nearest-requires
 nearest-requires c κs = search needs
 
 pub share-of-spec : {M : Type 1} → statement M
-share-of-spec = tie.close (tie.spec sub-growth mul-nearest nearest-requires cast-result returns)
+share-of-spec = tie.close (tie.spec sub-growth mul-parts nearest-requires cast-result returns)
