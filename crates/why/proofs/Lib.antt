@@ -1,0 +1,5 @@
+pub mod Following
+pub mod Seeking
+pub mod Turning
+pub mod Putting
+pub mod Looking
