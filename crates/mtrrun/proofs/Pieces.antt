@@ -6,7 +6,7 @@ use Prim.Native.Nat.{ℕ, _+_, _-_, _*_, _/_, _%_, _≤_}
 use native.Mathlib.Omega.{arith}
 use borrow.Author.Tests.{le-leb, eqb-true}
 use lib.Dec.{leb, eqb, T}
-use lib.ListN.{length, take, drop, length-append, length-take, length-drop}
+use lib.ListN.{length, length-append}
 use Rattle.replay.specs.declared.Replay.{Replay}
 use Rattle.replay.specs.declared.Ran.{Ran}
 use Rattle.replay.specs.Replay.{blocksIn, leftBy, beginning}
@@ -45,10 +45,6 @@ held-more n q bytes r h z w =
           ∙ sym (pieces-left ((length a + 511) / 512) ((length bytes + 511) / 512) a bytes beginning whole)
           ∙ ap (λ (k : ℕ). leftBy k (a ++ bytes) beginning) (sym count);
     }
-
--- a part of an area has no more than what follows its start
-pub part-most : (l : List ℕ) (a k : ℕ) → length (take k (drop a l)) ≤ length l - a
-part-most l a k = omega (arith, length-take k (drop a l), length-drop a l)
 
 -- no more bytes are replayed than were read
 pub cond-most : (failed : Bool) (got : ℕ) → cond failed (got / 512 * 512) got ≤ got

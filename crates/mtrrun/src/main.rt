@@ -1,7 +1,5 @@
 // Replays the journal on standard input and prints a line for each record.
 ghost use mathlib.Core.Path.{_≡_};
-ghost use mathlib.Core.Bool.{true, cond};
-ghost use Prim.Native.Nat.{_*_, _/_, _≤_, _<_};
 ghost use lib.ListN.{length, take};
 ghost use Rattle.mtrrun.specs.Inner.{Replayed, Held};
 use libc::STDERR_FILENO;
@@ -13,12 +11,6 @@ use replay::Replay;
 const INPUT: usize = 32 * replay::BLOCK;
 
 const OUTPUT: usize = 32 * replay::ROOM;
-
-// How many bytes were read, and whether the last read failed.
-struct Filled {
-    got: usize,
-    failed: bool,
-}
 
 // The replay after a piece, how many bytes of the piece were replayed, and whether the input goes on. Then what that comes from: how many
 // bytes were read, whether the last read failed, and whether all the lines were written.
@@ -37,54 +29,10 @@ struct Done {
     read: u64,
 }
 
-// Reads until the area is full, the input ends or a read fails: then the area is not full.
-fn fill(input: &mut [u8]) -> Filled
-    ensures { λ r. ⌜ r .got ≤ length (now (input .exit)) ⌝ }
-    ensures { λ r. ⌜ (r .failed ≡ true → r .got < length (now (input .exit))) ⌝ }
-{
-    let mut at: usize = 0;
-    while at < input.len() {
-        let moved = libc::read(STDIN_FILENO, &mut input[at..]);
-        let got = io::count(moved, &input[at..]);
-        if got == 0 {
-            return Filled {
-                got: at,
-                failed: moved < 0,
-            };
-        }
-        at += got;
-    }
-    Filled {
-        got: at,
-        failed: false,
-    }
-}
-
-// The bytes that are replayed: after a read that failed the whole blocks alone, since what would have followed is not known.
-fn replayed(got: usize, failed: bool) -> usize
-    ensures { λ r. ⌜ r ≡ cond failed (got / 512 * 512) got ⌝ }
-{
-    if failed {
-        got / replay::BLOCK * replay::BLOCK
-    } else {
-        got
-    }
-}
-
 // Says why the input ends in the middle.
 fn say_unread(failed: bool) {
     if failed {
         os::fail(b"mtrrun: standard input");
-    }
-}
-
-// Says why the output ends here. A reader that has closed its end of a pipe wants no more: that is no failure.
-fn say_unwritten(written: bool) {
-    if written {
-        return;
-    }
-    if os::errno() != libc::EPIPE {
-        os::fail(b"mtrrun: standard output");
     }
 }
 
@@ -93,13 +41,13 @@ fn run_some(replay: Replay, input: &mut [u8], output: &mut [u8]) -> Piece
     requires { ⌜ (length (now input) ≡ 16384) × (length (now output) ≡ 104160) ⌝ }
     ensures { λ r. ⌜ Replayed (take (r .read) (now (input .exit))) replay r ⌝ }
 {
-    let filled = fill(input);
+    let filled = program::fill(STDIN_FILENO, input);
     say_unread(filled.failed);
-    let read = replayed(filled.got, filled.failed);
+    let read = program::judged(filled.got, filled.failed);
     let ran = replay.run(&input[..read], output);
     let used = ran.used;
     let written = io::write_all(STDOUT_FILENO, &output[..used]);
-    say_unwritten(written);
+    program::say_unwritten(written, b"mtrrun: standard output");
     let after = ran.replay;
     Piece {
         replay: after,

@@ -8,7 +8,7 @@ use lib.Dec.{eqb}
 use lib.ListN.{length, take, length-take}
 use lib.Seq.{length-take-le}
 use Rattle.replay.specs.declared.Replay.{Replay}
-use Rattle.mtrrun.specs.declared.Filled.{Filled}
+use Rattle.program.specs.declared.Filled.{Filled}
 use Rattle.mtrrun.specs.declared.Piece.{Piece}
 use Rattle.mtrrun.specs.Inner.{Replayed}
 use Rattle.mtrrun.proofs.Pieces.{run-left, cond-most}
@@ -17,7 +17,7 @@ use Rattle.mtrrun.proofs.run_some.Statement.{statement}
 use Rattle.mtrrun.proofs.run_some.Tie as tie
 
 -- what was read
-module _ (c : tie.After-replayed) where
+module _ (c : tie.After-judged) where
   abbrev filled : tie.After-fill
   filled = c .before .before .before .before
 
@@ -25,26 +25,26 @@ module _ (c : tie.After-replayed) where
   S = filled .before .before .before .before
 
   abbrev area : List ℕ
-  area = filled .fill .last .0
+  area = filled .fill .last .1 .0
 
   abbrev got : Filled
   got = filled .fill .result
 
   abbrev read : ℕ
-  read = c .replayed .result
+  read = c .judged .result
 
   long : length area ≡ 16384
-  long = filled .fill .kept .0 ∙ S .pre .0
+  long = filled .fill .kept .1 .0 ∙ S .pre .0
 
   few : read ≤ length area
-  few = omega (arith, c .replayed .ensures, cond-most (got .failed) (got .got), filled .fill .ensures .0)
+  few = omega (arith, c .judged .ensures, cond-most (got .failed) (got .got), filled .fill .ensures .0)
 
 abbrev piece : Replay → ℕ → Bool → Filled → Bool → Piece
 piece q n more f written = record { replay = q; read = n; more = more; got = f .got; failed = f .failed; written = written }
 
 -- what was replayed
 module _ (c : tie.After-run) where
-  abbrev at : tie.After-replayed
+  abbrev at : tie.After-judged
   at = c .before .before .before
 
   told : (more written : Bool) → more ≡ (written && eqb (read at) 16384)
@@ -53,7 +53,7 @@ module _ (c : tie.After-run) where
       let size = length-take-le (read at) (area at) (few at) in
       record {
         size = size;
-        read = at .replayed .ensures;
+        read = at .judged .ensures;
         most = omega (arith, filled at .fill .ensures .0, long at);
         short = (λ t. omega (arith, filled at .fill .ensures .1 t, long at));
         left =
@@ -68,8 +68,8 @@ fill-requires c κs = search needs
 say-unread-requires : tie.Need-say-unread-requires
 say-unread-requires c κs = search needs
 
-replayed-requires : tie.Need-replayed-requires
-replayed-requires c κs = search needs
+judged-requires : tie.Need-judged-requires
+judged-requires c κs = search needs
 
 slice-reshare-prefix-run : tie.Need-slice-reshare-prefix-run
 slice-reshare-prefix-run c = few c
@@ -91,6 +91,9 @@ slice-aggregate-write-all c =
 write-all-requires : tie.Need-write-all-requires
 write-all-requires c κs = search needs
 
+slice-aggregate-say-unwritten : tie.Need-slice-aggregate-say-unwritten
+slice-aggregate-say-unwritten c = search needs
+
 say-unwritten-requires : tie.Need-say-unwritten-requires
 say-unwritten-requires c κs = search needs
 
@@ -102,7 +105,7 @@ same-length-2 c = search needs
 
 returns : tie.Need-returns
 returns c =
-    let e = c .before .before .before .before .before .before .before in
+    let e = c .before .before .before .before .before .before .before .before in
     told e _ _ (sym (ap (λ (b : Bool). b && eqb (read (at e)) 16384) (c .if1 .taken)))
 
 same-length-3 : tie.Need-same-length-3
@@ -113,7 +116,7 @@ same-length-4 c = search needs
 
 returns-2 : tie.Need-returns-2
 returns-2 c =
-    let e = c .before .before .before .before .before .before .before in
+    let e = c .before .before .before .before .before .before .before .before in
     told e _ _ (c .if1 .left ∙ sym (ap (λ (b : Bool). b && eqb (read (at e)) 16384) (c .if1 .left)))
 
 pub run-some-spec : {M : Type 1} → statement M
@@ -122,13 +125,14 @@ run-some-spec =
     (tie.spec
     fill-requires
     say-unread-requires
-    replayed-requires
+    judged-requires
     slice-reshare-prefix-run
     slice-aggregate-run
     run-requires
     slice-reshare-prefix-write-all
     slice-aggregate-write-all
     write-all-requires
+    slice-aggregate-say-unwritten
     say-unwritten-requires
     same-length
     same-length-2
