@@ -12,6 +12,7 @@
 //! - [`blocks`]: the 512-byte event blocks.
 //! - [`calls`]: the calls as values, and the records that stand for them.
 //! - [`replay`]: what `mtrrun` prints for a journal.
+//! - [`why`]: what `mtrwhy` prints for a journal and a record's number.
 //! - [`random`]: generators of states, calls and journals for tests.
 
 #![forbid(unsafe_code)]
@@ -23,3 +24,4 @@ pub mod calls;
 pub mod random;
 pub mod replay;
 pub mod rule;
+pub mod why;

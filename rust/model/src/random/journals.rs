@@ -25,7 +25,7 @@ pub fn any_record(r: &mut Rng) -> Record {
     }
 }
 
-fn start_record(r: &mut Rng, extreme: bool) -> Record {
+pub(super) fn start_record(r: &mut Rng, extreme: bool) -> Record {
     let (m, p) = if extreme {
         (
             r.pick(&[1, 1, 2, 999, 1000, 1000]),
@@ -158,7 +158,7 @@ pub fn journal(r: &mut Rng) -> Vec<u8> {
 }
 
 /// One damage to a row of blocks; `tail` is what follows the last whole one.
-fn damage(r: &mut Rng, blocks: &mut Vec<[u8; BLOCK]>, tail: &mut Vec<u8>) {
+pub(super) fn damage(r: &mut Rng, blocks: &mut Vec<[u8; BLOCK]>, tail: &mut Vec<u8>) {
     if blocks.is_empty() {
         *tail = (0..r.range(1, 511)).map(|_| r.bits() as u8).collect();
         return;
@@ -188,7 +188,7 @@ fn damage(r: &mut Rng, blocks: &mut Vec<[u8; BLOCK]>, tail: &mut Vec<u8>) {
 }
 
 /// One damage within a block.
-fn damage_block(r: &mut Rng, block: &mut [u8; BLOCK], way: u64, place: usize) {
+pub(super) fn damage_block(r: &mut Rng, block: &mut [u8; BLOCK], way: u64, place: usize) {
     let used = block[4].min(RECORDS as u8) as usize;
     match way {
         0 => block[place] ^= 1 << r.below(8),

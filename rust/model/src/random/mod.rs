@@ -1,5 +1,6 @@
 //! Generators of states, calls and journals for tests.
 
+mod blocking;
 mod broken;
 mod calls;
 mod journals;
@@ -7,6 +8,7 @@ mod states;
 
 use crate::rule::{METER_LIMIT, METER_MAX};
 
+pub use blocking::blocking;
 pub use broken::broken_states;
 pub use calls::call;
 pub use journals::{any_record, journal};

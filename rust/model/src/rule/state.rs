@@ -53,6 +53,7 @@ pub mod answer {
     pub const CHECK: u32 = 18;
     pub const FORM: u32 = 19;
     pub const NOT_STARTED: u32 = 20;
+    pub const NO_DISPATCH: u32 = 21;
 }
 
 #[repr(C)]

@@ -1,0 +1,129 @@
+//! Journals in which many threads are blocked at a dispatch.
+
+use super::journals::{damage, damage_block, start_record};
+use super::states::{admitted, with_status};
+use super::{call, Rng};
+use crate::blocks::{write_block, Record, BLOCK};
+use crate::calls::{record, run, Call};
+use crate::rule::{Scheduler, BLOCKED, FREE, NONE};
+
+/// What a journal is made of.
+struct Taste {
+    /// Threads admitted at most, of numbers below twice as many.
+    threads: u64,
+    /// Of a hundred calls so many are wakes, as long as a thread is blocked.
+    wakes: u64,
+    /// The same of removals and of calls of any kind.
+    removals: u64,
+    others: u64,
+}
+
+impl Taste {
+    fn any(r: &mut Rng) -> Taste {
+        Taste {
+            threads: r.pick(&[1, 2, 3, 4, 6, 8, 12, 20, 40, 64]),
+            wakes: r.pick(&[0, 2, 5, 10, 20, 30]),
+            removals: r.pick(&[0, 1, 2, 5, 10]),
+            others: r.pick(&[0, 1, 5]),
+        }
+    }
+
+    fn call(&self, r: &mut Rng, s: &Scheduler) -> Call {
+        let mut free = with_status(s, FREE);
+        free.retain(|&n| (n as u64) < 2 * self.threads);
+        if (s.count as u64) < self.threads && r.chance(1, 2) && !free.is_empty() {
+            return Call::Admit {
+                number: r.pick(&free) as u64,
+                group: 0,
+                reservation: r.range(1, 1000 / self.threads),
+            };
+        }
+        if r.chance(self.others, 100) {
+            return call(r, s);
+        }
+        let blocked = with_status(s, BLOCKED);
+        if !blocked.is_empty() && r.chance(self.wakes, 100) {
+            return Call::Wake {
+                number: r.pick(&blocked) as u64,
+            };
+        }
+        let listed = admitted(s);
+        if !listed.is_empty() && r.chance(self.removals, 100) {
+            let of = if blocked.is_empty() { listed } else { blocked };
+            return Call::Remove {
+                number: r.pick(&of) as u64,
+            };
+        }
+        run_or_report(r, s)
+    }
+}
+
+/// The dispatch or report that is next, and now and then the other of the two.
+/// Most reports block and leave the thread its place.
+fn run_or_report(r: &mut Rng, s: &Scheduler) -> Call {
+    if (s.running == NONE) != r.chance(1, 25) {
+        return Call::Dispatch;
+    }
+    let slice = match s.threads.get(s.running as usize) {
+        Some(t) => t.slice(&s.settings) as u64,
+        None => 1000,
+    };
+    Call::Report {
+        reason: r.pick(&[1, 1, 1, 1, 1, 1, 1, 1, 0, 0, 2, 3]),
+        used: match r.below(12) {
+            0 => slice + 1 + s.settings.overrun as u64,
+            1 => slice + r.edgy(0, s.settings.overrun as u64),
+            2..=4 => slice,
+            _ => r.range(0, slice / 2),
+        },
+    }
+}
+
+/// A journal in which many threads are blocked at a dispatch, before the chosen
+/// one or all: threads are admitted, run and block; some are woken, some removed
+/// and admitted again. There are starts on the way, and in half of the journals
+/// damaged blocks, with a start soon after most.
+pub fn blocking(r: &mut Rng) -> Vec<u8> {
+    let taste = Taste::any(r);
+    let damaged = r.chance(1, 2);
+    // Not full blocks in the middle as well.
+    let ragged = r.chance(1, 3);
+    let mut s = Scheduler::default();
+    let mut blocks: Vec<[u8; BLOCK]> = Vec::new();
+    let count = r.range(1, 12);
+    // Records up to the next start.
+    let mut due = r.chance(1, 2).then_some(0);
+    for number in 0..count {
+        let len = if ragged || number + 1 == count {
+            r.edgy(0, 31)
+        } else {
+            31
+        };
+        let mut records: Vec<Record> = Vec::new();
+        for _ in 0..len {
+            let rec = if due == Some(0) || r.chance(1, 200) {
+                start_record(r, false)
+            } else {
+                record(taste.call(r, &s))
+            };
+            due = due.and_then(|n: u64| n.checked_sub(1));
+            run(&mut s, &rec);
+            records.push(rec);
+        }
+        let mut block = [0; BLOCK];
+        write_block(&mut block, number as u32, &records);
+        if damaged && r.chance(1, 5) {
+            let (way, place) = (r.pick(&[0, 1, 2, 9, 10, 12, 14]), r.below(512) as usize);
+            damage_block(r, &mut block, way, place);
+            due = r.chance(3, 4).then(|| r.below(12));
+        }
+        blocks.push(block);
+    }
+    let mut tail = Vec::new();
+    if damaged && r.chance(1, 4) {
+        damage(r, &mut blocks, &mut tail);
+    }
+    let mut input = blocks.concat();
+    input.append(&mut tail);
+    input
+}
