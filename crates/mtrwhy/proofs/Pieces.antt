@@ -70,7 +70,8 @@ over-most o t out used u e h =
     let n : length out ≡ length o = ap length e ∙ over-length o 0 t (omega (arith, u, h)) in omega (arith, n, h)
 
 -- One piece more.
-module _ (asked read : ℕ) (q : Search) (o : List ℕ) (small : asked < 18446744073709551616) (room : length o ≡ 2730) (w : Sofar asked read q false o 0)
+module _ (asked read : ℕ) (q : Search) (o : List ℕ) (small : asked < 18446744073709551616) (room : length o ≡ 2730)
+    (w : Sofar asked read q false o 0)
     (whole : read % 512 ≡ 0) (b : List ℕ) (out : List ℕ) (r : Piece) (g : Judged b asked q o out r) where
   abbrev a : List ℕ
   a = w .bytes
@@ -197,7 +198,8 @@ told-failed asked read q found out used w = record {
   text = λ t. absurd (clash true refl t);
 }
 
-pub told-absent : (asked read : ℕ) (q : Search) (found : Bool) (o : List ℕ) (used : ℕ) (out : List ℕ) (end : ℕ) → Sofar asked read q found o used
+pub told-absent : (asked read : ℕ) (q : Search) (found : Bool) (o : List ℕ) (used : ℕ) (out : List ℕ) (end : ℕ)
+    → Sofar asked read q found o used
     → found ≡ false → length o ≡ 2730 → end ≡ next o 0 (lineOf (21 ∷ [])) → out ≡ written o 0 (lineOf (21 ∷ []))
     → Told asked out (answer-of read end false)
 told-absent asked read q found o used out end w f room e t =
@@ -228,7 +230,8 @@ has-room bytes asked o q x room e =
     enough : x .enough ≡ true
     enough =
         ap (λ (y : Looked). y .enough) e
-        ∙ ap (λ (b : Bool). (cond b (cond (isIn asked (q .replay .place) (blocksIn bytes)) (looked true true (length (linesOf (answerIn bytes asked q))) q)
+        ∙ ap (λ (b : Bool). (cond b (cond (isIn asked (q .replay .place) (blocksIn bytes))
+        (looked true true (length (linesOf (answerIn bytes asked q))) q)
         (looked true false 0 (searchedBy bytes q))) (looked false false 0 q)) .enough) yes
         ∙ either (isIn asked (q .replay .place) (blocksIn bytes)) (looked true true (length (linesOf (answerIn bytes asked q))) q)
         (looked true false 0 (searchedBy bytes q)) refl refl

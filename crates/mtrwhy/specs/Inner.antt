@@ -1,4 +1,5 @@
--- What the parts of the program promise. Of each piece: every byte that was read is judged, or, after a read that failed, the whole blocks of
+-- What the parts of the program promise. Of each piece: every byte that was read is judged, or, after a read that failed, the whole blocks
+-- of
 -- them, by the definition of a search. Of the whole run: the answer is `why` of some bytes of that number, in the order in which the pieces
 -- were read. Which bytes the journal has, and what is written, no contract can say.
 use Prim.Native.Nat.{ℕ, _*_, _/_, _≤_, _<_}

@@ -11,8 +11,8 @@ use why::Search;
 // 32 blocks a piece.
 const INPUT: usize = 32 * replay::BLOCK;
 
-// The search after a piece, how many bytes of the piece were judged, whether the record's place is in it, how many bytes the answer has, and
-// whether the file goes on. Then what that comes from: how many bytes were read, and whether the last read failed.
+// The search after a piece, how many bytes of the piece were judged, whether the record's place is in it, how many bytes the answer has,
+// and whether the file goes on. Then what that comes from: how many bytes were read, and whether the last read failed.
 struct Piece {
     search: Search,
     read: usize,

@@ -1,4 +1,5 @@
--- `look` meets its contract. The loop's invariant: what is held is the search over the bytes read or the answer for them (`Sofar`); where the
+-- `look` meets its contract. The loop's invariant: what is held is the search over the bytes read or the answer for them (`Sofar`); where
+-- the
 -- file goes on these are whole blocks, and the record is not reached; the areas keep their lengths; and the count of bytes has room for the
 -- pieces that may come.
 use mathlib.Core.Path.{_≡_, refl, sym, ap, subst, _∙_}
@@ -72,7 +73,8 @@ loop-again c =
     let before = unreached (start .args .asked) (at .read) (at .search) (at .found) (at .out) (at .used) (at .inv .2) (z .1) in (
       some .kept .1 .1 .1 .0 ∙ at .inv .0,
       some .kept .1 .1 .1 .1 .0 ∙ at .inv .1,
-      sofar-more (start .args .asked) (at .read) (at .search) (at .out) (start .fits .asked .fits) (at .inv .1) before (z .0) _ _ (some .result)
+      sofar-more (start .args .asked) (at .read) (at .search) (at .out) (start .fits .asked .fits) (at .inv .1) before (z .0) _ _
+          (some .result)
           (some .ensures),
       (λ t. let g = goes-on _ _ _ _ _ (some .result) (some .ensures) t in (omega (arith, z .0, g .1), g .0)),
       omega (arith, most c, at .inv .4, e .loop-test .taken),
@@ -105,7 +107,8 @@ put-line-requires c κs = search needs
 same-length-3 : tie.Need-same-length-3 Inv-loop μ-loop
 same-length-3 c =
     let e = c .before .before .before .before .before in
-    c .before .before .put-line .kept .0 ∙ e .before .before .before .loop .inv .1 ∙ sym (e .before .before .before .before .before .before .pre)
+    c .before .before .put-line .kept .0 ∙ e .before .before .before .loop .inv .1
+    ∙ sym (e .before .before .before .before .before .before .pre)
 
 returns-3 : tie.Need-returns-3 Inv-loop μ-loop
 returns-3 c =
