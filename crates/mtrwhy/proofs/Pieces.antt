@@ -30,6 +30,7 @@ use Rattle.mtrwhy.specs.Inner.{Judged, Told}
 pub record Sofar (asked read : ℕ) (q : Search) (found : Bool) (out : List ℕ) (used : ℕ) : Type 0 where
   pub bytes : List ℕ
   pub size : length bytes ≡ read
+  pub needed : read ≤ 512 * (asked / 31 + 1)
   pub none : found ≡ false → (q ≡ searchedBy bytes searching) × (isIn asked 0 (blocksIn bytes) ≡ false)
   pub told : found ≡ true → (used ≤ length out) × (take used out ≡ linesOf (why bytes asked))
 
@@ -46,6 +47,7 @@ pub sofar-none : (asked : ℕ) (q : Search) (out : List ℕ) → q ≡ searching
 sofar-none asked q out e = record {
   bytes = [];
   size = refl;
+  needed = omega arith;
   none = λ _. (e ∙ begun, none-yet asked);
   told = λ t. absurd (clash false t refl);
 }
@@ -56,6 +58,7 @@ pub unreached : (asked read : ℕ) (q : Search) (found : Bool) (out : List ℕ) 
 unreached asked read q found out used w f = record {
   bytes = w .bytes;
   size = w .size;
+  needed = w .needed;
   none = λ _. w .none f;
   told = λ t. absurd (clash false t refl);
 }
@@ -68,6 +71,11 @@ front o t = take-at t (drop (0 + length t) o) (length t) refl
 over-most : (o t out : List ℕ) (used : ℕ) → used ≡ length t → out ≡ over o 0 t → used ≤ length o → used ≤ length out
 over-most o t out used u e h =
     let n : length out ≡ length o = ap length e ∙ over-length o 0 t (omega (arith, u, h)) in omega (arith, n, h)
+
+-- no more bytes are judged than were read
+pub cond-most : (failed : Bool) (got : ℕ) → cond failed (got / 512 * 512) got ≤ got
+cond-most true got = omega arith
+cond-most false got = omega arith
 
 -- One piece more.
 module _ (asked read : ℕ) (q : Search) (o : List ℕ) (small : asked < 18446744073709551616) (room : length o ≡ 2730)
@@ -127,6 +135,10 @@ module _ (asked read : ℕ) (q : Search) (o : List ℕ) (small : asked < 1844674
   unfolding blocksIn
   count = ap (λ (n : ℕ). (n + 511) / 512) (length-append a b) ∙ omega (arith, w .size, whole)
 
+  needs : read + r .read ≤ 512 * (asked / 31 + 1)
+  needs =
+      omega (arith, g .needed, g .read, cond-most (r .failed) (r .got), place-is, blocks, w .size, w .needed, small)
+
   pub sofar-more : Sofar asked (read + r .read) (r .search) (r .found) out (r .used)
   sofar-more =
       cases (isIn asked place (blocksIn b))
@@ -140,6 +152,7 @@ module _ (asked read : ℕ) (q : Search) (o : List ℕ) (small : asked < 1844674
       record {
         bytes = a ++ b;
         size = size;
+        needed = needs;
         none = λ f. absurd (clash (r .found) (ap (λ (x : Looked). x .found) l) f);
         told = λ _. (inside, text ∙ ap linesOf answer);
       })
@@ -148,6 +161,7 @@ module _ (asked read : ℕ) (q : Search) (o : List ℕ) (small : asked < 1844674
       record {
         bytes = a ++ b;
         size = size;
+        needed = needs;
         none = λ _. (
           ap (λ (x : Looked). x .search) l ∙ ap (searchedBy b) search ∙ next-search (blocksIn a) a b searching blocks,
           ap (isIn asked 0) count
@@ -168,47 +182,47 @@ pub goes-on : (b : List ℕ) (asked : ℕ) (q : Search) (o out : List ℕ) (r : 
     → (r .found ≡ false) × (r .read ≡ 16384)
 goes-on b asked q o out r g t = more-not (r .found) (r .read) (sym (g .more) ∙ t)
 
-pub cond-most : (failed : Bool) (got : ℕ) → cond failed (got / 512 * 512) got ≤ got
-cond-most true got = omega arith
-cond-most false got = omega arith
-
 pub read-most : (b : List ℕ) (asked : ℕ) (q : Search) (o out : List ℕ) (r : Piece) → Judged b asked q o out r → r .read ≤ 16384
 read-most b asked q o out r g = omega (arith, g .read, cond-most (r .failed) (r .got), g .most)
 
 -- The end.
 
-abbrev answer-of : ℕ → ℕ → Bool → Answer
-answer-of read used failed = record { read = read; used = used; failed = failed }
+abbrev answer-of : List ℕ → ℕ → ℕ → ℕ → Bool → Answer
+answer-of text read used got failed = record { text = text; read = read; used = used; got = got; failed = failed }
 
-pub told-found : (asked read : ℕ) (q : Search) (found : Bool) (out : List ℕ) (used : ℕ) → Sofar asked read q found out used → found ≡ true
-    → Told asked out (answer-of read used false)
-told-found asked read q found out used w t = record {
+pub told-found : (asked read got : ℕ) (q : Search) (found : Bool) (out : List ℕ) (used : ℕ) → Sofar asked read q found out used
+    → found ≡ true
+    → Told asked (answer-of out read used got false)
+told-found asked read got q found out used w t = record {
   bytes = w .bytes;
   size = w .size;
+  needed = w .needed;
   within = (w .told t) .0;
-  text = λ _. (w .told t) .1;
+  answer = λ _. (w .told t) .1;
 }
 
-pub told-failed : (asked read : ℕ) (q : Search) (found : Bool) (out : List ℕ) (used : ℕ) → Sofar asked read q found out used
-    → Told asked out (answer-of read 0 true)
-told-failed asked read q found out used w = record {
+pub told-failed : (asked read got : ℕ) (q : Search) (found : Bool) (out : List ℕ) (used : ℕ) → Sofar asked read q found out used
+    → Told asked (answer-of out read 0 got true)
+told-failed asked read got q found out used w = record {
   bytes = w .bytes;
   size = w .size;
+  needed = w .needed;
   within = omega arith;
-  text = λ t. absurd (clash true refl t);
+  answer = λ t. absurd (clash true refl t);
 }
 
-pub told-absent : (asked read : ℕ) (q : Search) (found : Bool) (o : List ℕ) (used : ℕ) (out : List ℕ) (end : ℕ)
+pub told-absent : (asked read got : ℕ) (q : Search) (found : Bool) (o : List ℕ) (used : ℕ) (out : List ℕ) (end : ℕ)
     → Sofar asked read q found o used
     → found ≡ false → length o ≡ 2730 → end ≡ next o 0 (lineOf (21 ∷ [])) → out ≡ written o 0 (lineOf (21 ∷ []))
-    → Told asked out (answer-of read end false)
-told-absent asked read q found o used out end w f room e t =
+    → Told asked (answer-of out read end got false)
+told-absent asked read got q found o used out end w f room e t =
     let put = put-one o 21 out end (omega arith) (omega (arith, room)) e t in
     record {
       bytes = w .bytes;
       size = w .size;
+      needed = w .needed;
       within = over-most o (linesOf absent) out end (put .ends) (put .text) (put .within);
-      text = λ _.
+      answer = λ _.
           ap (λ (n : ℕ). take n out) (put .ends) ∙ ap (take (length (linesOf absent))) (put .text) ∙ front o (linesOf absent)
           ∙ ap linesOf (sym (absent-why (w .bytes) asked ((w .none f) .1)));
     }

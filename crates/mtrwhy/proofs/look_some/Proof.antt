@@ -1,10 +1,12 @@
--- `look_some` meets its contract: what was read is searched, or its whole blocks after a read that failed, and the area has room.
-use mathlib.Core.Path.{_≡_, refl, sym, ap, _∙_}
-use mathlib.Core.List.{List}
+-- `look_some` meets its contract: what was read, of what was wanted, is searched, or its whole blocks after a read that failed; and the
+-- area
+-- has room.
+use mathlib.Core.Path.{_≡_, refl, sym, _∙_}
+use mathlib.Core.List.{List, _++_}
 use mathlib.Core.Bool.{Bool, true, false, not, _&&_}
-use Prim.Native.Nat.{ℕ, _≤_, _<_}
+use Prim.Native.Nat.{ℕ, _+_, _*_, _-_, _/_, min, _≤_, _<_}
 use native.Mathlib.Omega.{arith}
-use lib.ListN.{length, take}
+use lib.ListN.{length, take, drop, length-append, length-drop}
 use lib.Seq.{length-take-le}
 use borrow.Author.Needs.{needs}
 use Rattle.program.specs.declared.Filled.{Filled}
@@ -13,16 +15,30 @@ use Rattle.mtrwhy.proofs.Pieces.{cond-most, has-room}
 use Rattle.mtrwhy.proofs.look_some.Statement.{statement}
 use Rattle.mtrwhy.proofs.look_some.Tie as tie
 
+-- what was wanted
+module _ (c : tie.After-wanted) where
+  abbrev start : tie.Start
+  start = c .before .before .before .before
+
+  abbrev want : ℕ
+  want = c .wanted .result
+
+  want-most : want ≤ length (start .args .input .now)
+  want-most = omega (arith, c .wanted .ensures, start .pre .0)
+
 -- what was read
 module _ (c : tie.After-judged) where
   abbrev filled : tie.After-fill
   filled = c .before .before .before
 
+  abbrev asking : tie.After-wanted
+  asking = filled .before .before
+
   abbrev S : tie.Start
-  S = filled .before .before .before .before
+  S = start asking
 
   abbrev area : List ℕ
-  area = filled .fill .last .1 .0
+  area = filled .fill .last .1 .0 ++ drop (want asking) (S .args .input .now)
 
   abbrev got : Filled
   got = filled .fill .result
@@ -30,11 +46,28 @@ module _ (c : tie.After-judged) where
   abbrev read : ℕ
   read = c .judged .result
 
+  part : length (filled .fill .last .1 .0) ≡ want asking
+  part = filled .fill .kept .1 .0 ∙ length-take-le (want asking) (S .args .input .now) (want-most asking)
+
   long : length area ≡ 16384
-  long = filled .fill .kept .1 .0 ∙ S .pre .0
+  long =
+      length-append (filled .fill .last .1 .0) (drop (want asking) (S .args .input .now))
+      ∙ omega (arith, part, length-drop (want asking) (S .args .input .now), want-most asking, S .pre .0)
+
+  got-most : got .got ≤ want asking
+  got-most = omega (arith, filled .fill .ensures .0, part)
 
   few : read ≤ length area
-  few = omega (arith, c .judged .ensures, cond-most (got .failed) (got .got), filled .fill .ensures .0)
+  few = omega (arith, c .judged .ensures, cond-most (got .failed) (got .got), got-most, long, asking .wanted .ensures)
+
+wanted-requires : tie.Need-wanted-requires
+wanted-requires c κs = search needs
+
+slice-relend-prefix-fill : tie.Need-slice-relend-prefix-fill
+slice-relend-prefix-fill c = want-most c
+
+slice-aggregate-fill : tie.Need-slice-aggregate-fill
+slice-aggregate-fill c = let e = c .before in sym (length-take-le (want e) (start e .args .input .now) (want-most e))
 
 fill-requires : tie.Need-fill-requires
 fill-requires c κs = search needs
@@ -52,7 +85,7 @@ run-requires : tie.Need-run-requires
 run-requires c κs = search needs
 
 same-length : tie.Need-same-length
-same-length c = search needs
+same-length c = let at = c .before .before .before .before .before .before in long at ∙ sym (S at .pre .0)
 
 same-length-2 : tie.Need-same-length-2
 same-length-2 c = search needs
@@ -65,8 +98,9 @@ returns c =
     record {
       size = length-take-le (read at) (area at) (few at);
       read = at .judged .ensures;
-      most = omega (arith, filled at .fill .ensures .0, long at);
-      short = (λ t. omega (arith, filled at .fill .ensures .1 t, long at));
+      most = omega (arith, got-most at, asking at .wanted .ensures);
+      short = (λ t. omega (arith, filled at .fill .ensures .1 t, part at, asking at .wanted .ensures));
+      needed = omega (arith, got-most at, asking at .wanted .ensures);
       search = has-room (take (read at) (area at)) (a .asked) (a .out .now) (a .search) (run .result) (S at .pre .1) (run .ensures .0);
       area = run .ensures .1 .0;
       within = run .ensures .1 .1;
@@ -77,6 +111,9 @@ pub look-some-spec : {M : Type 1} → statement M
 look-some-spec =
     tie.close
     (tie.spec
+    wanted-requires
+    slice-relend-prefix-fill
+    slice-aggregate-fill
     fill-requires
     judged-requires
     slice-reshare-prefix-run
