@@ -48,6 +48,7 @@ fn contents() {
         "VERSION",
         "bin/journal",
         "bin/mtrrun",
+        "bin/mtrwhy",
         "examples/host/c/controller.c",
         "examples/host/rust/Cargo.toml",
         "examples/host/rust/src/host.rs",
@@ -61,6 +62,7 @@ fn contents() {
         "rust/Cargo.toml",
         "rust/build.rs",
         "share/man/man1/mtrrun.1",
+        "share/man/man1/mtrwhy.1",
     ];
     let found = files(&folder);
     let (sources, others): (Vec<&String>, Vec<&String>) =
@@ -76,7 +78,9 @@ fn contents() {
         ("include/mtr.h", "include/mtr.h"),
         ("target/staticlib/libabi.a", "lib/libmtr.a"),
         ("target/bin/mtrrun", "bin/mtrrun"),
+        ("target/bin/mtrwhy", "bin/mtrwhy"),
         ("docs/mtrrun.1", "share/man/man1/mtrrun.1"),
+        ("docs/mtrwhy.1", "share/man/man1/mtrwhy.1"),
         ("rust/mtr/src/raw.rs", "rust/src/raw.rs"),
         (
             "examples/host/c/controller.c",
@@ -263,7 +267,7 @@ target_link_libraries(prog mtr::mtr)
     }
 }
 
-/// The example hosts that go along, and their journal replayed by the program that does.
+/// The example hosts that go along, and the programs that do on their journal.
 #[test]
 fn hosts_and_programs() {
     let folder = filled("dist-hosts");
@@ -286,6 +290,21 @@ fn hosts_and_programs() {
     let journal = || Stdio::from(fs::File::open(above.join("journal.blocks")).unwrap());
     let replayed = printed(Command::new(folder.join("bin/mtrrun")).stdin(journal()));
     assert!(told.starts_with(&replayed) && told[replayed.len()..].starts_with("roster "));
+    // A dispatch's line ends in its thread, its slice and how many threads stood before it.
+    let mut asked = 0;
+    for line in replayed.lines().take(200) {
+        let numbers: Vec<&str> = line.split(' ').collect();
+        if let [record, "0", thread, slice, before] = numbers[..] {
+            if slice != "0" {
+                let mut why = Command::new(folder.join("bin/mtrwhy"));
+                let why = printed(why.args(["journal.blocks", record]).current_dir(above));
+                assert_eq!(why.lines().next(), Some(&format!("0 {thread}")[..]));
+                assert_eq!((why.lines().count() - 1).to_string(), before);
+                asked += 1;
+            }
+        }
+    }
+    assert!(asked > 20, "{asked}");
     let mut text = Command::new(folder.join("bin/journal"));
     let text = printed(text.args(["decode", "journal.blocks"]).current_dir(above));
     assert!(text.contains("admit"), "{text}");
