@@ -35,39 +35,41 @@ fn filled(name: &str) -> PathBuf {
     folder
 }
 
+/// Its files but the crate's sources.
+const FILES: [&str; 23] = [
+    "KIT",
+    "PROVED.md",
+    "README",
+    "RULE.md",
+    "SHA256SUMS",
+    "VERSION",
+    "bin/journal",
+    "bin/mtrrun",
+    "bin/mtrwhy",
+    "examples/host/c/controller.c",
+    "examples/host/rust/Cargo.toml",
+    "examples/host/rust/src/host.rs",
+    "examples/host/rust/src/main.rs",
+    "examples/host/rust/src/world.rs",
+    "include/mtr.h",
+    "lib/cmake/mtr/mtrConfig.cmake",
+    "lib/cmake/mtr/mtrConfigVersion.cmake",
+    "lib/libmtr.a",
+    "lib/pkgconfig/mtr.pc",
+    "rust/Cargo.toml",
+    "rust/build.rs",
+    "share/man/man1/mtrrun.1",
+    "share/man/man1/mtrwhy.1",
+];
+
 #[test]
 fn contents() {
     let folder = filled("dist-contents");
     let root = boundary::root();
-    let wanted = [
-        "KIT",
-        "PROVED.md",
-        "README",
-        "RULE.md",
-        "SHA256SUMS",
-        "VERSION",
-        "bin/journal",
-        "bin/mtrrun",
-        "bin/mtrwhy",
-        "examples/host/c/controller.c",
-        "examples/host/rust/Cargo.toml",
-        "examples/host/rust/src/host.rs",
-        "examples/host/rust/src/main.rs",
-        "examples/host/rust/src/world.rs",
-        "include/mtr.h",
-        "lib/cmake/mtr/mtrConfig.cmake",
-        "lib/cmake/mtr/mtrConfigVersion.cmake",
-        "lib/libmtr.a",
-        "lib/pkgconfig/mtr.pc",
-        "rust/Cargo.toml",
-        "rust/build.rs",
-        "share/man/man1/mtrrun.1",
-        "share/man/man1/mtrwhy.1",
-    ];
     let found = files(&folder);
     let (sources, others): (Vec<&String>, Vec<&String>) =
         found.iter().partition(|f| f.starts_with("rust/src/"));
-    assert_eq!(others, wanted);
+    assert_eq!(others, FILES);
     let own = files(&root.join("rust/mtr/src"));
     assert!(sources
         .iter()
