@@ -5,7 +5,7 @@
 help: ## this list
 	@sed -n 's/^\([a-z]*\):.*## /\1	/p' Makefile | while IFS='	' read -r name text; do printf '  make %-14s%s\n' "$$name" "$$text"; done
 
-check: ## prove every crate that changed, and run mtrrun on its example
+check: ## prove every crate that changed, and run mtrrun and mtrwhy on their examples
 	rt check
 
 library: ## prove and build the static library, target/staticlib/libabi.a
@@ -31,7 +31,7 @@ fmt: ## rt fmt and cargo fmt
 target/staticlib/libabi.a:
 	rt staticlib abi
 
-test: target/staticlib/libabi.a ## the Rust tests (after make check: some run mtrrun)
+test: target/staticlib/libabi.a ## the Rust tests (after make check: some run mtrrun and mtrwhy)
 	cargo test --offline --release
 
 header: ## write include/mtr.h and rust/mtr/src/raw.rs from the Rattle sources

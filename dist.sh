@@ -1,6 +1,6 @@
 #!/bin/sh
 # Fills a folder that a firmware project can vendor: the static library and its header, with files for pkg-config and CMake; the Rust crate;
-# mtrrun, with its manual page, and journal for the bench; the example hosts; what was proved; VERSION, KIT and SHA256SUMS.
+# mtrrun and mtrwhy, with their manual pages, and journal for the bench; the example hosts; what was proved; VERSION, KIT and SHA256SUMS.
 #   ./dist.sh [--no-build] [FOLDER]     FOLDER is dist/ if none is given; an earlier one is replaced
 # --no-build takes what stands in target/ as it is instead of proving and building it. The revision is git's, or $REVISION if it is set.
 # After a failure FOLDER is as it was.
@@ -42,7 +42,7 @@ if [ "$build" = yes ]; then
     cargo build --quiet --offline --release -p journal || fail "journal can't be built"
 fi
 archive=target/staticlib/libabi.a
-for file in "$archive" target/bin/mtrrun target/cargo/release/journal; do
+for file in "$archive" target/bin/mtrrun target/bin/mtrwhy target/cargo/release/journal; do
     [ -f "$file" ] || fail "$file is missing: run ./dist.sh without --no-build"
 done
 needs=$(nm -u "$archive") || fail "nm can't read $archive"
@@ -84,8 +84,8 @@ package='/^\[/ { tests = /dev-dependencies/ || /^\[\[(test|example|bench)\]\]/ }
         mkdir -p "$new/bin" "$new/share/man/man1" "$new/lib/pkgconfig" "$new/lib/cmake/mtr" &&
         mkdir -p "$new/include" "$new/rust" "$new/examples/host/rust" &&
         cp "$archive" "$new/lib/libmtr.a" &&
-        cp target/bin/mtrrun target/cargo/release/journal "$new/bin/" &&
-        cp docs/mtrrun.1 "$new/share/man/man1/mtrrun.1" &&
+        cp target/bin/mtrrun target/bin/mtrwhy target/cargo/release/journal "$new/bin/" &&
+        cp docs/mtrrun.1 docs/mtrwhy.1 "$new/share/man/man1/" &&
         cp include/mtr.h "$new/include/mtr.h" &&
         cp docs/RULE.md "$new/RULE.md" &&
         cp -R rust/mtr/build.rs rust/mtr/src "$new/rust/" &&
@@ -147,9 +147,10 @@ END
 | gate | $gate |
 | library | sha256 $(sha256sum <"$archive" | cut -d ' ' -f 1) |
 
-\`lib/libmtr.a\` is what the kit wrote after its checker had accepted every exported function and everything below it. The gate checks all
-proofs from nothing, tries edits that must be refused, and runs the tests; its last line counts what passed. What follows says what was
-proved, by the names of the definitions and theorems in the sources of this commit, and what was not.
+\`lib/libmtr.a\` is what the kit wrote after its checker had accepted every exported function and everything below it; \`bin/mtrrun\` and
+\`bin/mtrwhy\` are what it wrote of the programs. The gate checks all proofs from nothing, tries edits that must be refused, and runs the
+tests; its last line counts what passed. What follows says what was proved, by the names of the definitions and theorems in the sources of
+this commit, and what was not.
 END
 } >"$new/PROVED.md" || fail "can't write PROVED.md"
 
@@ -161,7 +162,9 @@ Commit $revision, $kit.
     include/mtr.h    its functions for C11 and C++11 or later: what each does, refuses and leaves unchanged; stack, interrupts, locking
     lib/pkgconfig/   for pkg-config; lib/cmake/: for CMake
     rust/            the crate \`mtr\`: the same with Rust types (no_std), and the declarations in its module raw
-    bin/mtrrun       replays a journal (share/man/man1/mtrrun.1); bin/journal: journals as text, figures and pictures
+    bin/mtrrun       replays a journal (share/man/man1/mtrrun.1)
+    bin/mtrwhy       tells from a journal why a thread had the processor (share/man/man1/mtrwhy.1)
+    bin/journal      journals as text, figures and pictures
     examples/host/   a controller's main loop, in C and in Rust
     RULE.md          the rule whole, in numbered sections
     PROVED.md        what was proved of it, by which theorem, and what is assumed
@@ -200,6 +203,10 @@ The example host, and its journal replayed:
     cc -std=c11 -O2 -Iinclude examples/host/c/controller.c -Llib -lmtr -o /tmp/controller
     /tmp/controller 1 /tmp/journal.blocks
     bin/mtrrun </tmp/journal.blocks
+
+Why the thread of its dispatch at record N had the processor:
+
+    bin/mtrwhy /tmp/journal.blocks N
 
 The files are whole if this says OK of each:
 

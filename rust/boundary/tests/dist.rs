@@ -35,37 +35,41 @@ fn filled(name: &str) -> PathBuf {
     folder
 }
 
+/// Its files but the crate's sources.
+const FILES: [&str; 23] = [
+    "KIT",
+    "PROVED.md",
+    "README",
+    "RULE.md",
+    "SHA256SUMS",
+    "VERSION",
+    "bin/journal",
+    "bin/mtrrun",
+    "bin/mtrwhy",
+    "examples/host/c/controller.c",
+    "examples/host/rust/Cargo.toml",
+    "examples/host/rust/src/host.rs",
+    "examples/host/rust/src/main.rs",
+    "examples/host/rust/src/world.rs",
+    "include/mtr.h",
+    "lib/cmake/mtr/mtrConfig.cmake",
+    "lib/cmake/mtr/mtrConfigVersion.cmake",
+    "lib/libmtr.a",
+    "lib/pkgconfig/mtr.pc",
+    "rust/Cargo.toml",
+    "rust/build.rs",
+    "share/man/man1/mtrrun.1",
+    "share/man/man1/mtrwhy.1",
+];
+
 #[test]
 fn contents() {
     let folder = filled("dist-contents");
     let root = boundary::root();
-    let wanted = [
-        "KIT",
-        "PROVED.md",
-        "README",
-        "RULE.md",
-        "SHA256SUMS",
-        "VERSION",
-        "bin/journal",
-        "bin/mtrrun",
-        "examples/host/c/controller.c",
-        "examples/host/rust/Cargo.toml",
-        "examples/host/rust/src/host.rs",
-        "examples/host/rust/src/main.rs",
-        "examples/host/rust/src/world.rs",
-        "include/mtr.h",
-        "lib/cmake/mtr/mtrConfig.cmake",
-        "lib/cmake/mtr/mtrConfigVersion.cmake",
-        "lib/libmtr.a",
-        "lib/pkgconfig/mtr.pc",
-        "rust/Cargo.toml",
-        "rust/build.rs",
-        "share/man/man1/mtrrun.1",
-    ];
     let found = files(&folder);
     let (sources, others): (Vec<&String>, Vec<&String>) =
         found.iter().partition(|f| f.starts_with("rust/src/"));
-    assert_eq!(others, wanted);
+    assert_eq!(others, FILES);
     let own = files(&root.join("rust/mtr/src"));
     assert!(sources
         .iter()
@@ -76,7 +80,9 @@ fn contents() {
         ("include/mtr.h", "include/mtr.h"),
         ("target/staticlib/libabi.a", "lib/libmtr.a"),
         ("target/bin/mtrrun", "bin/mtrrun"),
+        ("target/bin/mtrwhy", "bin/mtrwhy"),
         ("docs/mtrrun.1", "share/man/man1/mtrrun.1"),
+        ("docs/mtrwhy.1", "share/man/man1/mtrwhy.1"),
         ("rust/mtr/src/raw.rs", "rust/src/raw.rs"),
         (
             "examples/host/c/controller.c",
@@ -263,7 +269,7 @@ target_link_libraries(prog mtr::mtr)
     }
 }
 
-/// The example hosts that go along, and their journal replayed by the program that does.
+/// The example hosts that go along, and the programs that do on their journal.
 #[test]
 fn hosts_and_programs() {
     let folder = filled("dist-hosts");
@@ -286,6 +292,21 @@ fn hosts_and_programs() {
     let journal = || Stdio::from(fs::File::open(above.join("journal.blocks")).unwrap());
     let replayed = printed(Command::new(folder.join("bin/mtrrun")).stdin(journal()));
     assert!(told.starts_with(&replayed) && told[replayed.len()..].starts_with("roster "));
+    // A dispatch's line ends in its thread, its slice and how many threads stood before it.
+    let mut asked = 0;
+    for line in replayed.lines().take(200) {
+        let numbers: Vec<&str> = line.split(' ').collect();
+        if let [record, "0", thread, slice, before] = numbers[..] {
+            if slice != "0" {
+                let mut why = Command::new(folder.join("bin/mtrwhy"));
+                let why = printed(why.args(["journal.blocks", record]).current_dir(above));
+                assert_eq!(why.lines().next(), Some(&format!("0 {thread}")[..]));
+                assert_eq!((why.lines().count() - 1).to_string(), before);
+                asked += 1;
+            }
+        }
+    }
+    assert!(asked > 20, "{asked}");
     let mut text = Command::new(folder.join("bin/journal"));
     let text = printed(text.args(["decode", "journal.blocks"]).current_dir(above));
     assert!(text.contains("admit"), "{text}");

@@ -26,7 +26,7 @@ const FOLDERS: [&str; 8] = [
     "rust/mtr/src",
 ];
 
-const FILES: [&str; 8] = [
+const FILES: [&str; 9] = [
     "dist.sh",
     "include/mtr.h",
     "rust/mtr/build.rs",
@@ -35,6 +35,13 @@ const FILES: [&str; 8] = [
     "docs/PROOFS.md",
     "docs/RULE.md",
     "docs/mtrrun.1",
+    "docs/mtrwhy.1",
+];
+
+const PROGRAMS: [&str; 3] = [
+    "target/bin/mtrrun",
+    "target/bin/mtrwhy",
+    "target/cargo/release/journal",
 ];
 
 impl Repository {
@@ -47,7 +54,7 @@ impl Repository {
         for part in FILES {
             fs::copy(boundary::root().join(part), root.join(part)).unwrap();
         }
-        for part in ["target/bin/mtrrun", "target/cargo/release/journal"] {
+        for part in PROGRAMS {
             fs::write(root.join(part), "").unwrap();
         }
         Repository {
@@ -114,7 +121,7 @@ fn no_library() {
 
 #[test]
 fn no_program() {
-    for part in ["target/bin/mtrrun", "target/cargo/release/journal"] {
+    for part in PROGRAMS {
         let repository = Repository::whole("dist-no-program");
         fs::remove_file(repository.root.join(part)).unwrap();
         repository.refuses(&format!("{part} is missing"));
@@ -126,8 +133,12 @@ fn no_program() {
 fn an_earlier_folder_stays() {
     let repository = Repository::whole("dist-stays");
     repository.fill();
-    fs::remove_file(repository.root.join("include/mtr.h")).unwrap();
-    repository.refuses("can't fill");
+    for part in ["include/mtr.h", "docs/mtrwhy.1"] {
+        let path = repository.root.join(part);
+        fs::remove_file(&path).unwrap();
+        repository.refuses("can't fill");
+        fs::copy(boundary::root().join(part), path).unwrap();
+    }
     fs::remove_file(repository.target.join("VERSION")).unwrap();
     repository.refuses("has no VERSION");
 }

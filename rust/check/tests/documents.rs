@@ -1,12 +1,14 @@
 //! The documents name what is there: every section of docs/RULE.md that is
 //! cited exists, and so does every definition and theorem in docs/PROOFS.md.
 //! The published table of priorities is that of the code, the library and the model.
+//! The examples of the manual page of `mtrwhy` print what stands there.
 
 use model::rule::priority;
 use mtr::{numbers, raw};
 use std::collections::BTreeSet;
 use std::fs;
 use std::path::{Path, PathBuf};
+use std::process::{Command, Output};
 
 fn root() -> PathBuf {
     Path::new(env!("CARGO_MANIFEST_DIR")).join("../..")
@@ -233,4 +235,57 @@ fn the_table_of_priorities() {
         named,
         [(10, 20, "highest"), (5, 15, "normal"), (1, 11, "lowest")]
     );
+}
+
+/// Runs a command at the root, with the proved programs on the path.
+fn ran(command: &str) -> Output {
+    let path = std::env::var("PATH").unwrap();
+    let programs = root().join("target/bin");
+    Command::new("sh")
+        .args(["-c", command])
+        .current_dir(root())
+        .env("PATH", format!("{}:{path}", programs.display()))
+        .output()
+        .unwrap()
+}
+
+/// The commands of a manual page with what stands below each: lines `$ COMMAND` between .nf and .fi.
+fn examples(page: &str) -> Vec<(&str, String)> {
+    let mut found: Vec<(&str, String)> = Vec::new();
+    for lines in page.split("\n.nf\n").skip(1) {
+        let (lines, _) = lines.split_once("\n.fi\n").unwrap();
+        for line in lines.lines() {
+            match line.strip_prefix("$ ") {
+                Some(command) => found.push((command, String::new())),
+                None => found.last_mut().unwrap().1 += &format!("{line}\n"),
+            }
+        }
+    }
+    found
+}
+
+#[test]
+fn the_manual_page_of_mtrwhy() {
+    let page = read(&root().join("docs/mtrwhy.1"));
+    let mut seen = BTreeSet::new();
+    for (command, below) in examples(&page) {
+        let output = ran(command);
+        let said = String::from_utf8(output.stderr).unwrap();
+        let printed = String::from_utf8(output.stdout).unwrap();
+        assert_eq!((printed, said), (below.clone(), String::new()), "{command}");
+        seen.insert(number(&below).to_string());
+    }
+    // Its answers, each in an example, but for the meter at its limit.
+    let heads = part(&page, ".SH ANSWERS", ".SH ");
+    let answers: BTreeSet<String> = heads
+        .map(|line| number(line.strip_prefix(".RI ").unwrap_or(line)).to_string())
+        .filter(|answer| !answer.is_empty() && answer != "15")
+        .collect();
+    assert_eq!(answers.len(), 4);
+    assert_eq!(answers, seen);
+    // Its message where the answer can't be written.
+    let output = ran("mtrwhy examples/journals/listing.blocks 7 > /dev/full");
+    let said = String::from_utf8(output.stderr).unwrap();
+    assert_eq!(said, "mtrwhy: standard output: No space left on device\n");
+    assert!(page.contains("\n.RI \"mtrwhy: standard output: \" reason\n"));
 }

@@ -3,6 +3,7 @@
 
 use mtr::{Dispatch, Event, Scheduler};
 
+pub use mtr::raw::METER_LIMIT;
 pub use mtr::Settings;
 
 use crate::codec::{answer, Record, NONE};
@@ -31,6 +32,12 @@ pub trait Engine: Default {
 
     /// The running thread.
     fn running(&self) -> Option<u8>;
+
+    /// All admitted threads, front of the list first.
+    fn list(&self) -> &[u8];
+
+    /// Ticks of all accepted reports since the start.
+    fn meter(&self) -> u64;
 }
 
 /// What a record is answered: 0 or the refusal, and for an accepted dispatch
@@ -122,5 +129,13 @@ impl Engine for Proved {
 
     fn running(&self) -> Option<u8> {
         self.state.running()
+    }
+
+    fn list(&self) -> &[u8] {
+        self.state.list()
+    }
+
+    fn meter(&self) -> u64 {
+        self.state.meter()
     }
 }

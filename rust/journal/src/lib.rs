@@ -4,6 +4,7 @@
 //! - [`text`]: text to blocks and back.
 //! - [`playback`]: a journal run record by record.
 //! - [`track`]: a journal as spans of time, whole or in part.
+//! - [`why`]: why the thread that a dispatch chose had the processor.
 //! - [`draw`]: a journal as a picture. [`stats`]: a journal in figures.
 //! - [`codec`], [`engine`]: the only modules that name the library underneath,
 //!   the proved one.
@@ -22,4 +23,5 @@ pub mod scale;
 pub mod stats;
 pub mod text;
 pub mod track;
+pub mod why;
 pub mod words;

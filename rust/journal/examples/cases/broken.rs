@@ -71,4 +71,12 @@ impl Engine for RefillOnWake {
     fn running(&self) -> Option<u8> {
         (self.state.running < rule::NONE).then_some(self.state.running as u8)
     }
+
+    fn list(&self) -> &[u8] {
+        self.state.list()
+    }
+
+    fn meter(&self) -> u64 {
+        self.state.meter
+    }
 }

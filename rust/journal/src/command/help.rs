@@ -12,7 +12,11 @@ const VIEW: &str =
                       or a processor time since the journal's beginning with
                       its unit, as 120ms, 1.5s or 2min (us, ms, s, min, h)
   --thread N          only thread N, with all refusals; may be given for several
-  --names FILE        names of threads: a number and its name a line; '#' begins
+";
+
+/// Of run, draw and stats.
+const NAMES: &str =
+    "  --names FILE        names of threads: a number and its name a line; '#' begins
                       a comment
   --name N=NAME       a name for thread N; may be given for each
 ";
@@ -136,7 +140,13 @@ words why it was refused or how many ticks a report used beyond its slice. The
 answers are computed anew by the proved library; a journal does not hold them.
 
 Options:
-{FIRST}{OUTPUT}"
+  --why RECORD        below the dispatch of this number, as comments, what mtrwhy
+                      tells of it: the threads before the chosen one in the list,
+                      or all where it is idle, and the record at which each
+                      blocked; or why it was refused. May be given for several. A
+                      record that is absent, no dispatch or not run is bad input.
+                      The names of threads go with it:
+{NAMES}{FIRST}{OUTPUT}"
     )
 }
 
@@ -162,7 +172,7 @@ journal's calls by the proved library.
 Options:
   --title TEXT        the picture's title; else the name of FILE
   --width N           the picture's width in pixels, 360 to 4000; else 1120
-{VIEW}{FIRST}{OUTPUT}"
+{VIEW}{NAMES}{FIRST}{OUTPUT}"
     )
 }
 
@@ -181,6 +191,6 @@ Options:
   --csv               comma-separated values, a thread a line; times in ticks of
                       a microsecond, lags and bounds in thousandths of ticks
   --csv --refusals    comma-separated values, a kind of refusal a line
-{VIEW}{FIRST}{OUTPUT}"
+{VIEW}{NAMES}{FIRST}{OUTPUT}"
     )
 }

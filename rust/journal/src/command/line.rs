@@ -1,10 +1,12 @@
 //! The command line.
 
+use std::collections::BTreeSet;
 use std::ffi::OsString;
 use std::path::PathBuf;
 
 use journal::codec::THREADS;
 use journal::draw::{Options, WIDTHS};
+use journal::names::Names;
 use journal::track::Mark;
 
 use super::{help, Stop};
@@ -44,6 +46,11 @@ impl Command {
     fn looks(self) -> bool {
         matches!(self, Command::Draw | Command::Stats)
     }
+
+    /// Tells of threads by name.
+    fn names(self) -> bool {
+        self.looks() || self == Command::Run
+    }
 }
 
 /// A command with its options.
@@ -56,6 +63,8 @@ pub struct Job {
     pub pack: bool,
     pub csv: bool,
     pub refusals: bool,
+    /// Dispatches to tell more of, by record number.
+    pub why: BTreeSet<u64>,
     pub names: Option<PathBuf>,
     pub options: Options,
 }
@@ -91,6 +100,7 @@ pub fn parse(mut words: impl Iterator<Item = OsString>) -> Result<Asked, Stop> {
         pack: false,
         csv: false,
         refusals: false,
+        why: BTreeSet::new(),
         names: None,
         options: Options::default(),
     };
@@ -117,6 +127,10 @@ pub fn parse(mut words: impl Iterator<Item = OsString>) -> Result<Asked, Stop> {
     }
     if job.refusals && !job.csv {
         return usage("--refusals goes with --csv; the text has them anyway".into());
+    }
+    let named = job.names.is_some() || job.options.names != Names::default();
+    if command == Command::Run && named && job.why.is_empty() {
+        return usage("--names and --name go with --why".into());
     }
     job.input = files.pop().filter(|file| file != "-").map(PathBuf::from);
     Ok(Asked::Do(Box::new(job)))
@@ -208,11 +222,14 @@ impl Job {
                 self.options.width = width;
             }
             ("--title", Command::Draw) => self.options.title = Some(option.text()?),
-            ("--names", c) if c.looks() => self.names = Some(PathBuf::from(option.value()?)),
+            ("--why", Command::Run) => {
+                self.why.insert(option.number(u64::MAX)?);
+            }
+            ("--names", c) if c.names() => self.names = Some(PathBuf::from(option.value()?)),
             ("--from", c) if c.looks() => view.from = option.mark()?,
             ("--to", c) if c.looks() => view.to = option.mark()?,
             ("--thread", c) if c.looks() => view.threads.push(option.number(most)? as u8),
-            ("--name", c) if c.looks() => {
+            ("--name", c) if c.names() => {
                 let text = option.text()?;
                 let (number, name) = text.split_once('=').unwrap_or(("", ""));
                 match number.parse::<u8>().ok().filter(|&n| u64::from(n) <= most) {

@@ -10,7 +10,8 @@ use journal::names::Names;
 use journal::playback::Journal;
 use journal::progress::Progress;
 use journal::stats::stats;
-use journal::text::{self, Problem, Tally};
+use journal::text::{self, Notes, Problem, Tally, PROBLEMS};
+use journal::why::why;
 use journal::words;
 
 use super::line::{Command, Job};
@@ -38,7 +39,7 @@ pub fn work(mut job: Job) -> Result<(), Stop> {
     };
     let tally = match job.command {
         Command::Encode => return encode(&job, &name, &bytes, &mut progress),
-        Command::Decode | Command::Run => write_text(&job, journal, &mut progress)?,
+        Command::Decode | Command::Run => write_text(&job, &name, journal, &mut progress)?,
         Command::Draw => write_picture(job, &name, journal, &mut progress)?,
         Command::Stats => write_figures(&job, &name, journal, &mut progress)?,
     };
@@ -65,12 +66,40 @@ fn encode(job: &Job, name: &str, bytes: &[u8], progress: &mut Progress) -> Resul
     write_all(job.output.as_deref(), &blocks)
 }
 
-fn write_text(job: &Job, journal: Journal, progress: &mut Progress) -> Result<Tally, Stop> {
+/// Below the dispatches asked about why each was answered as it was.
+fn notes(job: &Job, name: &str, journal: Journal, progress: &mut Progress) -> Result<Notes, Stop> {
+    let (mut notes, mut wrong) = (Notes::new(), Vec::new());
+    for (number, found) in why::<Proved>(journal, &job.why, progress) {
+        match found {
+            Ok(why) => {
+                notes.insert(number, why.told(&job.options.names));
+            }
+            Err(message) => wrong.push(format!("{name}: record {number}: {message}")),
+        }
+    }
+    match wrong.is_empty() {
+        true => Ok(notes),
+        false => {
+            wrong.truncate(PROBLEMS);
+            progress.clear();
+            Err(Stop::Bad(wrong))
+        }
+    }
+}
+
+fn write_text(
+    job: &Job,
+    name: &str,
+    journal: Journal,
+    progress: &mut Progress,
+) -> Result<Tally, Stop> {
+    progress.doing("looking");
+    let notes = notes(job, name, journal, progress)?;
     let mut output = Output::open(job.output.as_deref())?;
     let written = match job.command {
         Command::Run => {
             progress.doing("running");
-            text::run(journal, &mut output, progress)
+            text::run(journal, &notes, &mut output, progress)
         }
         _ => {
             progress.doing("decoding");

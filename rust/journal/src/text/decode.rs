@@ -1,5 +1,6 @@
 //! Blocks to text, bare and with the answers.
 
+use std::collections::BTreeMap;
 use std::io::{self, Write};
 use std::ops::ControlFlow;
 
@@ -10,6 +11,7 @@ use crate::progress::Progress;
 use crate::words;
 
 use super::form::put_record;
+use super::line::without_control;
 use super::{Tally, BLOCK_LINE, DAMAGED_LINE, HEX_LINE};
 
 /// Appends the lines of a damaged block: the 14 bytes before the records, 16
@@ -112,11 +114,19 @@ pub fn decode(
 /// Column of the answers in [`run`].
 const ANSWERS: usize = 42;
 
+/// Lines of comment below records, by the records' numbers.
+pub type Notes = BTreeMap<u64, Vec<String>>;
+
 /// Writes a journal as text with a comment at each record: the five numbers
 /// that `mtrrun` prints for it, and in words why it was refused or how far a
-/// report overran its slice. Work ends with the first piece that can't be
-/// written.
-pub fn run(journal: Journal, out: &mut impl Write, progress: &mut Progress) -> io::Result<Tally> {
+/// report overran its slice; below it its notes. Work ends with the first piece
+/// that can't be written.
+pub fn run(
+    journal: Journal,
+    notes: &Notes,
+    out: &mut impl Write,
+    progress: &mut Progress,
+) -> io::Result<Tally> {
     let mut text = Text::new(out, journal);
     let _ = writeln!(text.held, "# {}", Proved::SAYS);
     let mut written = Ok(());
@@ -136,6 +146,9 @@ pub fn run(journal: Journal, out: &mut impl Write, progress: &mut Progress) -> i
                     (refusal, _) => words::refusal(&record, refusal, engine.settings()).into(),
                 };
                 put_answered(&mut text.held, number, &record, &reply, &why);
+                for note in notes.get(&number).into_iter().flatten() {
+                    put_note(&mut text.held, note);
+                }
             }
             Step::Damaged {
                 place,
@@ -171,4 +184,10 @@ fn put_answered(text: &mut Vec<u8>, number: u64, record: &Record, reply: &Reply,
         let _ = write!(text, " {why}");
     }
     text.push(b'\n');
+}
+
+/// Appends a line that is a comment alone, below the answers.
+fn put_note(text: &mut Vec<u8>, note: &str) {
+    text.resize(text.len() + ANSWERS, b' ');
+    let _ = writeln!(text, " # {}", without_control(note));
 }

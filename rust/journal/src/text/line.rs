@@ -19,13 +19,16 @@ pub(crate) fn words_of(line: &[u8]) -> Words<'_> {
     line.split(blank).filter(some)
 }
 
+/// A text that is one line, whatever it was.
+pub(crate) fn without_control(text: &str) -> String {
+    let shown = |c: char| if c.is_control() { '\u{fffd}' } else { c };
+    text.chars().map(shown).collect()
+}
+
 /// A word as it may stand in a message.
 pub(crate) fn shown(word: &[u8]) -> String {
-    let mut text: String = String::from_utf8_lossy(word)
-        .chars()
-        .map(|c| if c.is_control() { '\u{fffd}' } else { c })
-        .take(33)
-        .collect();
+    let text = without_control(&String::from_utf8_lossy(word));
+    let mut text: String = text.chars().take(33).collect();
     if text.chars().count() > 32 {
         text.pop();
         text.push_str("..");

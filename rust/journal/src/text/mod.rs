@@ -10,7 +10,7 @@ mod encode;
 mod form;
 pub(crate) mod line;
 
-pub use decode::{decode, run};
+pub use decode::{decode, run, Notes};
 pub use encode::encode;
 pub use form::put_record;
 

@@ -329,7 +329,8 @@ fn random_journals_have_the_changes_that_were_accepted() {
         let journal = journal(&mut r);
         let mut text = Vec::new();
         let whole = Journal::whole(&journal);
-        journal::text::run(whole, &mut text, &mut Progress::silent()).unwrap();
+        let notes = journal::text::Notes::new();
+        journal::text::run(whole, &notes, &mut text, &mut Progress::silent()).unwrap();
         let text = String::from_utf8(text).unwrap();
         let answers = text.lines().filter(|line| line.starts_with("change"));
         let answers = answers.map(|line| line.split_once(" # ").unwrap().1);

@@ -1,5 +1,5 @@
-//! The commands of docs/JOURNAL.md and docs/CASES.md are run, and what they
-//! print and write is what stands there.
+//! The commands of docs/JOURNAL.md, docs/CASES.md and of a section of README.md
+//! are run, and what they print and write is what stands there.
 //!
 //! A `console` block has lines `$ COMMAND`, a line that ends in `\` going on in
 //! the next, and below each what it prints.
@@ -34,11 +34,20 @@ struct Shown {
 
 fn shown(page: &str) -> Vec<Shown> {
     let text = fs::read_to_string(root().join("docs").join(page)).unwrap();
+    let blocks = text.split("```console\n").skip(1);
+    let lines = blocks.map(|block| block.split("```").next().unwrap().lines());
+    commands(page, lines)
+}
+
+/// The commands in blocks of lines.
+fn commands<'l, B: Iterator<Item = &'l str>>(
+    page: &str,
+    blocks: impl Iterator<Item = B>,
+) -> Vec<Shown> {
     let mut out: Vec<Shown> = Vec::new();
-    for block in text.split("```console\n").skip(1) {
-        let block = block.split("```").next().unwrap();
+    for block in blocks {
         let mut goes_on = false;
-        for line in block.lines() {
+        for line in block {
             match (line.strip_prefix("$ "), out.last_mut()) {
                 (Some(command), _) => out.push(Shown {
                     command: command.to_string(),
@@ -163,4 +172,51 @@ fn the_page_about_the_cases_shows_what_its_commands_give() {
     });
     let text = fs::read_to_string(root().join("docs/CASES.md")).unwrap();
     assert!(text.contains(&shares.concat()));
+}
+
+/// README's section about a dispatch: what its commands print, and of each line
+/// of the answer the record that it comes from.
+#[test]
+fn the_section_why_a_thread_ran_is_true() {
+    let readme = fs::read_to_string(root().join("README.md")).unwrap();
+    let (_, section) = readme.split_once("\n## Why did the viewer run?\n").unwrap();
+    let (section, _) = section.split_once("\n## ").unwrap();
+    let indented = section.lines().filter_map(|line| line.strip_prefix("    "));
+    let shown = commands("README.md", std::iter::once(indented));
+    let folder = ready("README");
+    fs::create_dir_all(folder.0.join("target/bin")).unwrap();
+    let program = root().join("target/bin/mtrwhy");
+    std::os::unix::fs::symlink(program, folder.0.join("target/bin/mtrwhy")).unwrap();
+    assert_eq!(shown.len(), 2);
+    for Shown {
+        command,
+        printed: below,
+    } in &shown
+    {
+        assert_eq!(&printed(command, &folder.0), below, "{command}");
+    }
+
+    let text = printed("journal run examples/journals/exporter.blocks", &folder.0);
+    let has = |line: &str, answer: &str| {
+        let found = text.lines().find_map(|run| {
+            let (record, comment) = run.split_once(" # ")?;
+            comment.starts_with(answer).then_some(record.trim_end())
+        });
+        assert_eq!(found, Some(line), "{answer}");
+    };
+    // A table's row has the line and the record in backticks.
+    let rows = section.lines().filter(|line| line.starts_with("| `"));
+    let rows: Vec<Vec<&str>> = rows.map(|row| row.split('`').collect()).collect();
+    let lines: String = rows.iter().map(|row| format!("{}\n", row[1])).collect();
+    assert_eq!(lines, shown[0].printed);
+    let dispatch = shown[0].command.rsplit(' ').next().unwrap();
+    has(rows[0][3], &format!("{dispatch} {} ", rows[0][1]));
+    for row in &rows[1..] {
+        let (_, record) = row[1].split_once(' ').unwrap();
+        has(row[3], &format!("{record} 0 "));
+    }
+    // What is told of readout and of the exporter's wake.
+    has("report tick 3000", "42 0 ");
+    has("wake 3", "47 0 ");
+    has("dispatch", "48 0 3 8000 ");
 }

@@ -10,6 +10,7 @@ mod part;
 mod stats;
 mod text;
 mod view;
+mod why;
 
 #[path = "../../examples/cases/answer.rs"]
 mod answer;

@@ -18,7 +18,14 @@ fn decode(blocks: &[u8]) -> String {
 
 fn run(blocks: &[u8]) -> String {
     let mut out = Vec::new();
-    text::run(Journal::whole(blocks), &mut out, &mut Progress::silent()).unwrap();
+    let notes = text::Notes::new();
+    text::run(
+        Journal::whole(blocks),
+        &notes,
+        &mut out,
+        &mut Progress::silent(),
+    )
+    .unwrap();
     String::from_utf8(out).unwrap()
 }
 
