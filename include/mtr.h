@@ -1,5 +1,5 @@
 /*
- * The move-to-rear list scheduler (MTR-LS), version 2.2.0, for C11 and C++11 or
+ * The move-to-rear list scheduler (MTR-LS), version 2.3.0, for C11 and C++11 or
  * later on x86-64.
  *
  * Written from the Rattle sources; do not edit. To renew it:
@@ -145,18 +145,18 @@ extern "C" {
 MTR_STRUCT(size_t, 8, 8);
 
 /* The version as text. */
-#define MTR_VERSION_TEXT "2.2.0"
+#define MTR_VERSION_TEXT "2.3.0"
 
 /* The version; mtr_version answers that of the library. */
 
 /* Major. */
 #define MTR_VERSION_MAJOR 2
 /* Minor. */
-#define MTR_VERSION_MINOR 2
+#define MTR_VERSION_MINOR 3
 /* Patch. */
 #define MTR_VERSION_PATCH 0
 /* One number: 10000 times the major, 100 times the minor, and the patch. */
-#define MTR_VERSION 20200
+#define MTR_VERSION 20300
 
 /* Numbers of threads and groups, and the parts of a block. */
 

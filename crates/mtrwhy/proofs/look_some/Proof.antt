@@ -60,36 +60,6 @@ module _ (c : tie.After-judged) where
   few : read ≤ length area
   few = omega (arith, c .judged .ensures, cond-most (got .failed) (got .got), got-most, long, asking .wanted .ensures)
 
-wanted-requires : tie.Need-wanted-requires
-wanted-requires c κs = search needs
-
-slice-relend-prefix-fill : tie.Need-slice-relend-prefix-fill
-slice-relend-prefix-fill c = want-most c
-
-slice-aggregate-fill : tie.Need-slice-aggregate-fill
-slice-aggregate-fill c = let e = c .before in sym (length-take-le (want e) (start e .args .input .now) (want-most e))
-
-fill-requires : tie.Need-fill-requires
-fill-requires c κs = search needs
-
-judged-requires : tie.Need-judged-requires
-judged-requires c κs = search needs
-
-slice-reshare-prefix-run : tie.Need-slice-reshare-prefix-run
-slice-reshare-prefix-run c = few c
-
-slice-aggregate-run : tie.Need-slice-aggregate-run
-slice-aggregate-run c = sym (length-take-le (read (c .before)) (area (c .before)) (few (c .before)))
-
-run-requires : tie.Need-run-requires
-run-requires c κs = search needs
-
-same-length : tie.Need-same-length
-same-length c = let at = c .before .before .before .before .before .before in long at ∙ sym (S at .pre .0)
-
-same-length-2 : tie.Need-same-length-2
-same-length-2 c = search needs
-
 returns : tie.Need-returns
 returns c =
     let run = c .before .before .before .run in
@@ -106,6 +76,36 @@ returns c =
       within = run .ensures .1 .1;
       more = refl;
     }
+
+wanted-requires : tie.Need-wanted-requires
+wanted-requires c κs = search needs
+
+slice-relend-prefix-fill : tie.Need-slice-relend-prefix-fill
+slice-relend-prefix-fill c = want-most c
+
+slice-aggregate-fill : tie.Need-slice-aggregate-fill
+slice-aggregate-fill c = let e = c .before in sym (length-take-le (want e) (start e .args .input .now) (want-most e))
+
+fill-requires : tie.Need-fill-requires
+fill-requires c κs = search needs
+
+judged-requires : tie.Need-judged-requires
+judged-requires c κs = search needs
+
+slice-reshare-prefix-run : tie.Need-slice-reshare-prefix-run
+slice-reshare-prefix-run c = omega (arith, few c)
+
+slice-aggregate-run : tie.Need-slice-aggregate-run
+slice-aggregate-run c = sym (length-take-le (read (c .before)) (area (c .before)) (few (c .before)))
+
+run-requires : tie.Need-run-requires
+run-requires c κs = search needs
+
+same-length : tie.Need-same-length
+same-length c = let at = c .before .before .before .before .before .before in long at ∙ sym (S at .pre .0)
+
+same-length-2 : tie.Need-same-length-2
+same-length-2 c = search needs
 
 pub look-some-spec : {M : Type 1} → statement M
 look-some-spec =
