@@ -2,72 +2,11 @@
 
 mod common;
 
-use common::block;
+use common::{admit, block, dispatch, listing, report, start, wake};
 use model::accounts::Entry;
 use model::blocks::{check, kind, read_block, write_block, Record};
 use model::replay::{replay, Replayer};
 use model::rule::{priority, Group, Scheduler, Thread, METER_LIMIT, METER_MAX, NONE};
-
-fn start(m: u16, p: u32) -> Record {
-    Record {
-        kind: kind::START,
-        amount: m,
-        ticks: p,
-        ..Record::default()
-    }
-}
-fn admit(subject: u8, group: u8, amount: u16) -> Record {
-    Record {
-        kind: kind::ADMIT,
-        subject,
-        group,
-        amount,
-        ..Record::default()
-    }
-}
-fn wake(subject: u8) -> Record {
-    Record {
-        kind: kind::WAKE,
-        subject,
-        ..Record::default()
-    }
-}
-fn dispatch() -> Record {
-    Record {
-        kind: kind::DISPATCH,
-        ..Record::default()
-    }
-}
-fn report(reason: u8, ticks: u32) -> Record {
-    Record {
-        kind: kind::REPORT,
-        reason,
-        ticks,
-        ..Record::default()
-    }
-}
-fn listing() -> [u8; 512] {
-    block(
-        0,
-        &[
-            start(100, 20000),
-            admit(5, 0, 500),
-            admit(7, 0, 100),
-            dispatch(),
-            report(0, 20000),
-            dispatch(),
-            report(1, 12000),
-            dispatch(),
-            wake(5),
-            report(0, 10000),
-            dispatch(),
-            dispatch(),
-            report(0, 18001),
-            report(0, 18000),
-            dispatch(),
-        ],
-    )
-}
 
 const PRINTED: &str = "\
 0 0 0 0 0
@@ -89,10 +28,11 @@ const PRINTED: &str = "\
 
 #[test]
 fn the_listing() {
-    assert_eq!(String::from_utf8(replay(&listing())).unwrap(), PRINTED);
+    let input = block(0, &listing());
+    assert_eq!(String::from_utf8(replay(&input)).unwrap(), PRINTED);
 
     let mut replayer = Replayer::new();
-    replayer.block::<true>(&listing(), &mut Vec::new());
+    replayer.block::<true>(&input, &mut Vec::new());
     let s = replayer.state().unwrap();
     assert!(s.sound());
     assert_eq!(s.lag(5), Ok(-4_000_000));

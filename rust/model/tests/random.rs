@@ -13,7 +13,7 @@ use model::rule::{Reply, Scheduler, METER_MAX, NONE};
 mod common;
 mod plain;
 mod wrong;
-use common::is_share;
+use common::{is_share, Drip};
 use plain::{
     directly, failing, plain_replay, plain_replay_by, plainly, plainly_sound, report_on_time, slice,
 };
@@ -573,19 +573,6 @@ fn share_guarantee() {
     }
     assert!(checks.iter().all(|&n| n > 100_000), "{checks:?}");
     println!("{checks:?} checks, in all and after a change; least slack {nearest}");
-}
-
-/// Gives a few bytes at a time.
-struct Drip<'a>(&'a [u8], Rng);
-
-impl std::io::Read for Drip<'_> {
-    fn read(&mut self, buffer: &mut [u8]) -> std::io::Result<usize> {
-        let some = 1 + self.1.below(700) as usize;
-        let n = some.min(buffer.len()).min(self.0.len());
-        buffer[..n].copy_from_slice(&self.0[..n]);
-        self.0 = &self.0[n..];
-        Ok(n)
-    }
 }
 
 #[test]

@@ -4,40 +4,12 @@ mod common;
 
 use std::io::{self, Read};
 
-use common::block;
+use common::{admit, block, dispatch, listing, remove, report, start, wake};
 use model::blocks::{kind, write_block, Record, BLOCK};
 use model::calls::{record, Call};
 use model::random::{sound_state, Rng};
 use model::rule::{METER_LIMIT, METER_MAX, NONE};
 use model::why::{chosen, why, why_from, why_from_with};
-
-fn start(m: u16, p: u32) -> Record {
-    Record {
-        kind: kind::START,
-        amount: m,
-        ticks: p,
-        ..Record::default()
-    }
-}
-fn admit(number: u64, reservation: u64) -> Record {
-    record(Call::Admit {
-        number,
-        group: 0,
-        reservation,
-    })
-}
-fn remove(number: u64) -> Record {
-    record(Call::Remove { number })
-}
-fn wake(number: u64) -> Record {
-    record(Call::Wake { number })
-}
-fn dispatch() -> Record {
-    record(Call::Dispatch)
-}
-fn report(reason: u64, used: u64) -> Record {
-    record(Call::Report { reason, used })
-}
 
 /// Blocks 0, 1 and on with these records each.
 fn journal(blocks: &[&[Record]]) -> Vec<u8> {
@@ -72,23 +44,7 @@ fn answers(input: &[u8], want: &[(u64, &str)]) {
 
 #[test]
 fn the_listing() {
-    let input = journal(&[&[
-        start(100, 20000),
-        admit(5, 500),
-        admit(7, 100),
-        dispatch(),
-        report(0, 20000),
-        dispatch(),
-        report(1, 12000),
-        dispatch(),
-        wake(5),
-        report(0, 10000),
-        dispatch(),
-        dispatch(),
-        report(0, 18001),
-        report(0, 18000),
-        dispatch(),
-    ]]);
+    let input = journal(&[&listing()]);
     let want = [
         (3, "0 5\n"),
         (5, "0 5\n"),

@@ -8,7 +8,7 @@ use std::io::{self, Read};
 use std::path::{Path, PathBuf};
 use std::process::Command;
 
-use common::block;
+use common::{block, Drip};
 use model::calls::{record, Call};
 use model::random::{blocking, Rng};
 use model::why::{number, program, why, why_from};
@@ -197,19 +197,21 @@ fn files_on_unix() {
     }
 }
 
-/// Fails once so many bytes are given, a few at a time.
-struct Fails<'a>(&'a [u8], Rng);
+/// Gives a few bytes at a time, and fails behind the last.
+struct Fails<'a>(Drip<'a>);
+
+impl<'a> Fails<'a> {
+    fn after(bytes: &'a [u8], r: Rng) -> Fails<'a> {
+        Fails(Drip(bytes, r))
+    }
+}
 
 impl Read for Fails<'_> {
     fn read(&mut self, buffer: &mut [u8]) -> io::Result<usize> {
-        if self.0.is_empty() && !buffer.is_empty() {
-            return Err(io::Error::other("past the end"));
+        match self.0.read(buffer)? {
+            0 if !buffer.is_empty() => Err(io::Error::other("past the end")),
+            n => Ok(n),
         }
-        let some = 1 + self.1.below(700) as usize;
-        let n = some.min(buffer.len()).min(self.0.len());
-        buffer[..n].copy_from_slice(&self.0[..n]);
-        self.0 = &self.0[n..];
-        Ok(n)
     }
 }
 
@@ -222,18 +224,18 @@ fn read_as_far_as_needed() {
         for place in 0..input.len() / 512 {
             let asked = 31 * place as u64 + r.below(31);
             let whole = &input[..512 * (place + 1)];
-            let read = why_from(Fails(whole, Rng::new(r.bits())), asked);
+            let read = why_from(Fails::after(whole, Rng::new(r.bits())), asked);
             assert_eq!(read.unwrap(), why(&input, asked));
             assert_eq!(why(whole, asked), why(&input, asked));
             let short = &whole[..whole.len() - r.edgy(1, 512) as usize];
-            assert!(why_from(Fails(short, Rng::new(r.bits())), asked).is_err());
+            assert!(why_from(Fails::after(short, Rng::new(r.bits())), asked).is_err());
         }
     }
     // More blocks than are read at once.
     let idle = [record(Call::Dispatch); 31];
     let input: Vec<u8> = (0..300).flat_map(|n| block(n, &idle)).collect();
     for place in [126, 127, 128, 129, 254, 255, 256, 257, 299] {
-        let whole = Fails(&input[..512 * (place + 1)], Rng::new(1));
+        let whole = Fails::after(&input[..512 * (place + 1)], Rng::new(1));
         let printed = why_from(whole, 31 * place as u64 + 30).unwrap();
         assert_eq!(printed, b"0 64\n");
     }

@@ -3,7 +3,11 @@
 // A file need not use all of it.
 #![allow(dead_code)]
 
-use model::blocks::{write_block, Record};
+use std::io::{self, Read};
+
+use model::blocks::{kind, write_block, Record};
+use model::calls::{record, Call};
+use model::random::Rng;
 use model::rule::Scheduler;
 
 pub const TICK: u64 = 0;
@@ -38,4 +42,72 @@ pub fn block(number: u32, records: &[Record]) -> [u8; 512] {
     let mut area = [0xaa; 512];
     assert_eq!(write_block(&mut area, number, records), 0);
     area
+}
+
+pub fn start(m: u16, p: u32) -> Record {
+    Record {
+        kind: kind::START,
+        amount: m,
+        ticks: p,
+        ..Record::default()
+    }
+}
+
+/// Admits to group 0.
+pub fn admit(number: u64, reservation: u64) -> Record {
+    record(Call::Admit {
+        number,
+        group: 0,
+        reservation,
+    })
+}
+
+pub fn remove(number: u64) -> Record {
+    record(Call::Remove { number })
+}
+
+pub fn wake(number: u64) -> Record {
+    record(Call::Wake { number })
+}
+
+pub fn dispatch() -> Record {
+    record(Call::Dispatch)
+}
+
+pub fn report(reason: u64, used: u64) -> Record {
+    record(Call::Report { reason, used })
+}
+
+/// The records of the listing, RULE 10.1.
+pub fn listing() -> [Record; 15] {
+    [
+        start(100, 20000),
+        admit(5, 500),
+        admit(7, 100),
+        dispatch(),
+        report(TICK, 20000),
+        dispatch(),
+        report(BLOCK, 12000),
+        dispatch(),
+        wake(5),
+        report(TICK, 10000),
+        dispatch(),
+        dispatch(),
+        report(TICK, 18001),
+        report(TICK, 18000),
+        dispatch(),
+    ]
+}
+
+/// Gives a few bytes at a time.
+pub struct Drip<'a>(pub &'a [u8], pub Rng);
+
+impl Read for Drip<'_> {
+    fn read(&mut self, buffer: &mut [u8]) -> io::Result<usize> {
+        let some = 1 + self.1.below(700) as usize;
+        let n = some.min(buffer.len()).min(self.0.len());
+        buffer[..n].copy_from_slice(&self.0[..n]);
+        self.0 = &self.0[n..];
+        Ok(n)
+    }
 }
