@@ -4,7 +4,7 @@ mod common;
 
 use common::{admit, block, dispatch, listing, report, start, wake};
 use model::accounts::Entry;
-use model::blocks::{check, kind, read_block, write_block, Record};
+use model::blocks::{check, read_block, write_block, Record};
 use model::replay::{replay, Replayer};
 use model::rule::{priority, Group, Scheduler, Thread, METER_LIMIT, METER_MAX, NONE};
 
@@ -272,7 +272,7 @@ fn order_of_the_checks() {
 #[test]
 fn refused_blocks() {
     // Records before any start run on the default settings.
-    let first = block(0, &[admit(1, 0, 10), dispatch()]);
+    let first = block(0, &[admit(1, 10), dispatch()]);
     let second = block(
         1,
         &[dispatch(), start(0, 1), wake(0), start(1, 1), dispatch()],
