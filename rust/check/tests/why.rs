@@ -2,7 +2,7 @@
 
 use check::program::{answered, mtrwhy, root, silent, Folder};
 use check::why::{drawn, rarer, sort_of, sorts, Named, Sort, Sorts, FAR};
-use model::blocks::{write_block, Record, BLOCK, RECORDS};
+use model::blocks::{kind, read_block, write_block, Record, BLOCK, RECORDS};
 use model::calls::{apply, record, Call};
 use model::random::{blocking, journal, Rng};
 use model::rule::{Scheduler, BLOCKED, NONE};
@@ -268,10 +268,10 @@ fn refused_blocks() {
         // Two blocks later a start and the records of the first block again.
         let again = bad + 2;
         if again < 39 {
-            let mut records = model::blocks::read_block(&blocks[0], 0).unwrap();
+            let mut records = read_block(&blocks[0], 0).unwrap();
             records.truncate(RECORDS - 1);
             let start = Record {
-                kind: 8,
+                kind: kind::START,
                 amount: 100,
                 ticks: 20_000,
                 ..Record::default()
