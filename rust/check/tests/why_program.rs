@@ -1,5 +1,5 @@
-//! How the program `mtrwhy` ends. A missing, extra or bad argument gives 4 on standard output, and so does a file of which nothing can be
-//! read; a read that fails further on and an output that can't be written are said on standard error. Its exit status is always 0.
+//! How the program `mtrwhy` ends. A missing, extra or bad argument gives 4 on standard output, and so does a file of which not one block can
+//! be read; a read that fails further on and an output that can't be written are said on standard error. Its exit status is always 0.
 
 use check::program::{mtrwhy, root, Folder};
 use check::why::cut;
