@@ -1,15 +1,18 @@
-//! Records per second of the program `mtrrun` beside the model's replay, on journals of a million records and of half a million.
+//! Records per second of the programs `mtrrun` and `mtrwhy` beside the model, on journals of a million records and of half a million.
+//! `mtrwhy` is asked about the last dispatch, so that it runs all of them.
 
-use model::blocks::{write_block, Record};
+use model::blocks::{kind, write_block, Record};
 use model::calls::{apply, record, Call};
 use model::random::Rng;
 use model::rule::Scheduler;
+use model::why::why_from_with;
+use std::ffi::{OsStr, OsString};
 use std::fs::File;
 use std::path::{Path, PathBuf};
 use std::process::Command;
 use std::time::Instant;
 
-const ROUNDS: usize = 5;
+const ROUNDS: usize = 15;
 
 fn call(state: &Scheduler, rng: &mut Rng, threads: u64) -> Call {
     if state.running != 64 {
@@ -25,8 +28,9 @@ fn call(state: &Scheduler, rng: &mut Rng, threads: u64) -> Call {
     Call::Dispatch
 }
 
-/// A journal of so many records: a start, the admissions, then dispatches, reports and wakes, all accepted.
-fn journal(threads: u64, records: usize) -> Vec<u8> {
+/// A journal of so many records, and the number of its last dispatch: a start, the admissions, then dispatches, reports and wakes, all
+/// accepted.
+fn journal(threads: u64, records: usize) -> (Vec<u8>, u64) {
     let mut rng = Rng::new(threads);
     let mut state = Scheduler::start(10, 5000, 0).unwrap();
     let mut list: Vec<Record> = vec![Record {
@@ -55,13 +59,15 @@ fn journal(threads: u64, records: usize) -> Vec<u8> {
         assert_eq!(write_block(&mut area, number as u32, part), 0);
         bytes.extend(area);
     }
-    bytes
+    let last = list.iter().rposition(|r| r.kind == kind::DISPATCH);
+    (bytes, last.unwrap() as u64)
 }
 
-/// Seconds that a program takes from one file to the other.
-fn seconds(program: &Path, input: &Path, output: &Path) -> f64 {
+/// Seconds that a program takes with these arguments, from one file to the other.
+fn seconds(program: &Path, args: &[&OsStr], input: &Path, output: &Path) -> f64 {
     let begin = Instant::now();
     let status = Command::new(program)
+        .args(args)
         .stdin(File::open(input).unwrap())
         .stdout(File::create(output).unwrap())
         .status()
@@ -75,33 +81,74 @@ fn median(mut numbers: Vec<f64>) -> f64 {
     numbers[numbers.len() / 2]
 }
 
-pub fn print() {
+/// What is timed, each in every round.
+#[derive(Default)]
+struct Times {
+    mtrrun: Vec<f64>,
+    replay: Vec<f64>,
+    mtrwhy: Vec<f64>,
+    why: Vec<f64>,
+}
+
+/// One of the times divided by another, round by round.
+fn ratio(above: &[f64], below: &[f64]) -> f64 {
+    median(above.iter().zip(below).map(|(a, b)| a / b).collect())
+}
+
+/// The rounds of a journal, in a folder to work in.
+fn rounds(work: &Path, journal: &[u8], asked: u64) -> Times {
     let own = std::env::current_exe().unwrap();
     let model = own.with_file_name("model-replay");
-    let root = PathBuf::from(env!("CARGO_MANIFEST_DIR")).join("../..");
-    let mtrrun = root.join("target/bin/mtrrun");
+    let bin = PathBuf::from(env!("CARGO_MANIFEST_DIR")).join("../../target/bin");
+    let (mtrrun, mtrwhy) = (bin.join("mtrrun"), bin.join("mtrwhy"));
+    let [input, left, right, cause] = ["input", "left", "right", "cause"].map(|n| work.join(n));
+    std::fs::write(&input, journal).unwrap();
+    let number = OsString::from(asked.to_string());
+    let question: [&OsStr; 2] = [input.as_ref(), &number];
+    let mut times = Times::default();
+    for round in 0..ROUNDS {
+        // Each of the two programs comes first in turn.
+        for first in [round % 2 == 0, round % 2 == 1] {
+            if first {
+                times.mtrrun.push(seconds(&mtrrun, &[], &input, &left));
+            } else {
+                times
+                    .mtrwhy
+                    .push(seconds(&mtrwhy, &question, &input, &cause));
+            }
+        }
+        times.replay.push(seconds(&model, &[], &input, &right));
+        let begin = Instant::now();
+        let wanted = why_from_with::<false, _>(File::open(&input).unwrap(), asked).unwrap();
+        times.why.push(begin.elapsed().as_secs_f64());
+        assert!(std::fs::read(&cause).unwrap() == wanted && wanted.starts_with(b"0 "));
+    }
+    assert!(std::fs::read(&left).unwrap() == std::fs::read(&right).unwrap());
+    times
+}
+
+/// The model's replay tests soundness at each record, its search for the cause does not.
+pub fn print() {
     let work = std::env::temp_dir().join(format!("journals-{}", std::process::id()));
     std::fs::create_dir(&work).unwrap();
-    let (input, left, right) = (work.join("input"), work.join("left"), work.join("right"));
-    println!("threads   records    mtrrun      model       mtrrun's speed, of the model's");
+    println!("                       times                                       mtrrun's speed,  mtrwhy's speed,");
+    println!("threads   records     mtrrun     replay     mtrwhy        why   of the replay's    of the why's  of mtrrun's");
     for (threads, records) in [
         (2, 1_000_000),
         (16, 1_000_000),
         (64, 1_000_000),
         (64, 500_000),
     ] {
-        std::fs::write(&input, journal(threads, records)).unwrap();
-        let mut times = (Vec::new(), Vec::new());
-        for _ in 0..ROUNDS {
-            times.0.push(seconds(&mtrrun, &input, &left));
-            times.1.push(seconds(&model, &input, &right));
-        }
-        assert!(std::fs::read(&left).unwrap() == std::fs::read(&right).unwrap());
-        let ratio = median(times.1.iter().zip(&times.0).map(|(m, l)| m / l).collect());
+        let (journal, asked) = journal(threads, records);
+        let t = rounds(&work, &journal, asked);
         println!(
-            "{threads:7}  {records:8}  {:7.3} s   {:7.3} s   {ratio:.2}",
-            median(times.0),
-            median(times.1)
+            "{threads:7}  {records:8}  {}   {:15.2}  {:14.2}  {:11.2}",
+            [&t.mtrrun, &t.replay, &t.mtrwhy, &t.why]
+                .map(|times| format!("{:7.3} s", median(times.clone())))
+                .join("  "),
+            ratio(&t.replay, &t.mtrrun),
+            ratio(&t.why, &t.mtrwhy),
+            ratio(&t.mtrrun, &t.mtrwhy),
         );
     }
     std::fs::remove_dir_all(&work).unwrap();

@@ -3,7 +3,7 @@
 //! ```text
 //! bench               every row, as ratios (bench.sh)
 //! bench one CALL N    each accepted case of a call N times (callgrind.sh)
-//! bench journals      the program mtrrun beside the model's replay (after rt check mtrrun)
+//! bench journals      the programs mtrrun and mtrwhy beside the model (after rt check mtrrun mtrwhy)
 //! bench calls         the names that `bench one` takes
 //! ```
 

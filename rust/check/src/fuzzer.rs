@@ -1,23 +1,39 @@
-//! The entries of the builds with coverage: that of libFuzzer, with `mtrrun` as a function, and that of `fuzz/coverage.sh`.
+//! The entries of the builds with coverage: that of libFuzzer, with `mtrrun` and `mtrwhy` as functions, and that of
+//! `fuzz/coverage.sh`.
 //!
-//! `fuzz/build.sh` compiles the program's proved module with coverage and renames its `main`, `read`, `write` and
-//! `rattle_arg_count` to the functions named here, so that the program runs within the fuzzer.
+//! `fuzz/build.sh` compiles the programs' proved modules with coverage and renames their `main` and what they call of the
+//! system to the functions named here, so that they run within the fuzzer.
 
 use crate::attack::{Attack, ROUNDS, SEED};
 use crate::journal::{case, replay, Case};
-use core::ffi::c_int;
+use crate::why::{cut, failing, questions, sorts};
+use core::ffi::{c_char, c_int, CStr};
 use std::cell::RefCell;
 
 extern "C" {
     fn mtrrun_main() -> c_int;
+    fn mtrwhy_main() -> c_int;
+    fn rattle_set_errno(error: c_int);
 }
 
-/// A pipe to the program and one from it.
+const EIO: c_int = 5;
+
+/// The journal's name, and the descriptor that it gets.
+const NAME: &str = "journal";
+const FILE: c_int = 3;
+
+/// What a program was given, and what it has read and written.
 #[derive(Default)]
 struct Pipes {
+    words: Vec<String>,
+    /// What it may read from: 0, or nothing until the journal is opened.
+    open: Option<c_int>,
     input: Vec<u8>,
+    /// Whether the read past the input fails.
+    fails: bool,
     taken: usize,
     output: Vec<u8>,
+    said: Vec<u8>,
     pieces: [usize; 2],
     turn: usize,
 }
@@ -39,10 +55,15 @@ thread_local! {
 /// `to` is valid for writes of `length` bytes.
 #[no_mangle]
 unsafe extern "C" fn fuzz_read(file: c_int, to: *mut u8, length: usize) -> isize {
-    assert_eq!(file, 0);
     PIPES.with_borrow_mut(|p| {
+        assert_eq!(p.open, Some(file));
         let taken = p.taken;
         let count = p.piece(length).min(p.input.len() - taken);
+        if count == 0 && length > 0 && p.fails {
+            // SAFETY: it sets a number.
+            unsafe { rattle_set_errno(EIO) };
+            return -1;
+        }
         // SAFETY: at most the length that the program gives.
         unsafe { to.copy_from(p.input[taken..].as_ptr(), count) };
         p.taken += count;
@@ -55,32 +76,98 @@ unsafe extern "C" fn fuzz_read(file: c_int, to: *mut u8, length: usize) -> isize
 /// `from` is valid for reads of `length` bytes.
 #[no_mangle]
 unsafe extern "C" fn fuzz_write(file: c_int, from: *const u8, length: usize) -> isize {
-    assert_eq!(file, 1);
     PIPES.with_borrow_mut(|p| {
         let count = p.piece(length);
         // SAFETY: at most the length that the program gives.
-        p.output
-            .extend(unsafe { std::slice::from_raw_parts(from, count) });
+        let bytes = unsafe { std::slice::from_raw_parts(from, count) };
+        match file {
+            1 => p.output.extend(bytes),
+            2 => p.said.extend(bytes),
+            _ => panic!("a write to {file}"),
+        }
         count as isize
     })
 }
 
-/// The program's own name is its one argument.
+/// # Safety
+///
+/// `path` is ended by 0.
 #[no_mangle]
-extern "C" fn fuzz_arg_count() -> usize {
-    1
+unsafe extern "C" fn fuzz_open(path: *const c_char) -> c_int {
+    // SAFETY: as the caller promises.
+    let path = unsafe { CStr::from_ptr(path) };
+    assert_eq!(path.to_bytes(), NAME.as_bytes());
+    PIPES.with_borrow_mut(|p| {
+        assert!(p.open.is_none());
+        p.open = Some(FILE);
+    });
+    FILE
 }
 
-/// What the program prints for a case.
-fn mtrrun(case: Case) -> Vec<u8> {
+#[no_mangle]
+extern "C" fn fuzz_close(file: c_int) -> c_int {
+    PIPES.with_borrow_mut(|p| assert_eq!(p.open.take(), Some(file)));
+    0
+}
+
+/// The arguments, and the program's own name.
+#[no_mangle]
+extern "C" fn fuzz_arg_count() -> usize {
+    PIPES.with_borrow(|p| 1 + p.words.len())
+}
+
+/// Argument i, 1 or more.
+///
+/// # Safety
+///
+/// `to` is valid for writes of `length` bytes.
+#[no_mangle]
+unsafe extern "C" fn fuzz_arg(i: usize, to: *mut u8, length: usize) -> isize {
+    PIPES.with_borrow(|p| {
+        let word = p.words[i - 1].as_bytes();
+        assert!(word.len() <= length);
+        // SAFETY: at most the length that the program gives.
+        unsafe { to.copy_from(word.as_ptr(), word.len()) };
+        word.len() as isize
+    })
+}
+
+/// What `mtrrun` prints for a case.
+fn mtrrun(case: &Case) -> Vec<u8> {
     PIPES.set(Pipes {
-        input: case.journal,
+        open: Some(0),
+        input: case.journal.clone(),
         pieces: case.pieces,
         ..Pipes::default()
     });
     // SAFETY: the program's main, which ignores its arguments.
     assert_eq!(unsafe { mtrrun_main() }, 0);
-    PIPES.take().output
+    let done = PIPES.take();
+    assert!(done.said.is_empty());
+    done.output
+}
+
+/// What `mtrwhy` prints about a record of a case's journal, of which so many bytes can be read if not all; none if it says
+/// that a read failed.
+fn mtrwhy(case: &Case, asked: u64, read: Option<usize>) -> Option<Vec<u8>> {
+    let length = read.unwrap_or(case.journal.len());
+    PIPES.set(Pipes {
+        words: vec![NAME.into(), asked.to_string()],
+        input: case.journal[..length].to_vec(),
+        fails: read.is_some(),
+        pieces: case.pieces,
+        ..Pipes::default()
+    });
+    // SAFETY: the program's main, which ignores its arguments.
+    assert_eq!(unsafe { mtrwhy_main() }, 0);
+    let done = PIPES.take();
+    assert!(done.open.is_none());
+    if done.said.is_empty() {
+        return Some(done.output);
+    }
+    assert_eq!(done.said, b"mtrwhy: journal: Input/output error\n");
+    assert!(done.output.is_empty());
+    None
 }
 
 /// A panic in it ends the process, which libFuzzer takes for the crash that it is.
@@ -98,7 +185,13 @@ pub unsafe extern "C" fn LLVMFuzzerTestOneInput(data: *const u8, size: usize) ->
     };
     let case = case(recipe);
     let printed = replay(&case.journal).printed;
-    assert!(mtrrun(case) == printed.as_bytes());
+    assert!(mtrrun(&case) == printed.as_bytes());
+    let questions = questions(&case, &sorts(&case.journal));
+    for asked in questions {
+        assert!(mtrwhy(&case, asked, None) == Some(model::why::why(&case.journal, asked)));
+    }
+    let (asked, read) = (questions[0], failing(&case));
+    assert!(mtrwhy(&case, asked, Some(read)) == cut(&case.journal, asked, read));
     0
 }
 

@@ -1,17 +1,18 @@
-//! The static library and `mtrrun` beside the reference model.
+//! The static library, `mtrrun` and `mtrwhy` beside the reference model.
 //!
 //! - [`compare`]: a call on both sides, asserted equal.
 //! - [`bytes`]: the bytes that cross the boundary.
 //! - [`share`]: a share by its meaning, and what occurred of shares.
 //! - [`late`]: what occurred of overruns.
 //! - [`changes`]: what occurred of changes of a reservation.
-//! - [`program`]: `mtrrun`, run as it was built.
+//! - [`program`]: `mtrrun` and `mtrwhy`, run as they were built.
+//! - [`why`]: questions to `mtrwhy`, and the sorts of their answers.
 //! - [`attack`]: arbitrary bytes and arguments to every exported function.
 //! - [`guard`]: memory to lend between two pages that nobody may touch.
 //! - [`faults`]: names the call at which a signal ended the process.
 //! - [`stack`]: the stack that each call needs.
 //! - [`journal`]: a journal made of any bytes, and its replay on every side.
-//! - `fuzzer`: `mtrrun` as a function, in the build for libFuzzer only (`fuzz/build.sh`).
+//! - `fuzzer`: the programs as functions, in the build for libFuzzer only (`fuzz/build.sh`).
 
 #![deny(unsafe_op_in_unsafe_fn)]
 
@@ -28,3 +29,4 @@ pub mod late;
 pub mod program;
 pub mod share;
 pub mod stack;
+pub mod why;

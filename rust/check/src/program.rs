@@ -1,8 +1,9 @@
-//! The program `mtrrun`, run as it was built.
+//! The programs `mtrrun` and `mtrwhy`, run as they were built.
 
+use std::ffi::OsStr;
 use std::io::{Read, Write};
-use std::path::PathBuf;
-use std::process::{Command, Stdio};
+use std::path::{Path, PathBuf};
+use std::process::{Command, Output, Stdio};
 
 /// The folder of the whole project.
 pub fn root() -> PathBuf {
@@ -42,4 +43,66 @@ pub fn printed(input: &[u8], pieces: &[usize]) -> Vec<u8> {
     });
     assert!(child.wait().unwrap().success());
     out
+}
+
+/// `target/bin/mtrwhy`.
+pub fn mtrwhy() -> Command {
+    Command::new(root().join("target/bin/mtrwhy"))
+}
+
+/// What a run of `mtrwhy` printed.
+///
+/// # Panics
+///
+/// If its status is not 0 or it said something on standard error.
+pub fn silent(output: Output) -> Vec<u8> {
+    let said = String::from_utf8_lossy(&output.stderr);
+    assert!(output.status.success() && said.is_empty(), "{said}");
+    output.stdout
+}
+
+/// What `mtrwhy` prints about a record of the journal in a file.
+///
+/// # Panics
+///
+/// If the program is missing or fails.
+pub fn answered(journal: &Path, asked: impl AsRef<OsStr>) -> Vec<u8> {
+    let output = mtrwhy().arg(journal).arg(asked).output();
+    silent(output.unwrap_or_else(|e| panic!("mtrwhy: {e}: run rt check mtrwhy")))
+}
+
+/// A folder of its own for a test, which goes with it.
+pub struct Folder(PathBuf);
+
+impl Folder {
+    /// # Panics
+    ///
+    /// If it can't be made.
+    pub fn new(name: &str) -> Folder {
+        let path = std::env::temp_dir().join(format!("check-{name}-{}", std::process::id()));
+        std::fs::create_dir(&path).unwrap();
+        Folder(path)
+    }
+
+    /// The path of a name in it.
+    pub fn join(&self, name: impl AsRef<Path>) -> PathBuf {
+        self.0.join(name)
+    }
+
+    /// A file in it with these bytes.
+    ///
+    /// # Panics
+    ///
+    /// If it can't be written.
+    pub fn file(&self, name: &str, bytes: &[u8]) -> PathBuf {
+        let path = self.join(name);
+        std::fs::write(&path, bytes).unwrap();
+        path
+    }
+}
+
+impl Drop for Folder {
+    fn drop(&mut self) {
+        let _ = std::fs::remove_dir_all(&self.0);
+    }
 }

@@ -1,12 +1,14 @@
-//! What the fuzzer began with and what it has learnt, run again: the library's functions, `mtrrun` and the model
-//! agree on each case.
+//! What the fuzzer began with and what it has learnt, run again: the library's functions, `mtrrun`, `mtrwhy` and the
+//! model agree on each case.
 
 use check::changes::Changes;
 use check::journal::{self, case};
 use check::late::Late;
-use check::program::{printed, root};
+use check::program::{answered, printed, root, Folder};
 use check::share::Shares;
+use check::why::{questions, rarer, sort_of, sorts, Named, Sort, Sorts};
 use model::blocks::read_block;
+use model::why::why;
 use std::path::Path;
 use std::process::Command;
 
@@ -71,6 +73,29 @@ fn the_corpus() {
     // Shares rounded either way, halves too.
     println!("{shares:?}");
     assert!(shares.all(1), "{shares:?}");
+}
+
+/// The questions that the fuzzer asks about each case.
+#[test]
+fn the_questions() {
+    let folder = Folder::new("corpus");
+    let mut seen = Sorts::new();
+    for (place, recipe) in recipes() {
+        let case = case(&recipe);
+        let path = folder.file("journal", &case.journal);
+        let sorts = sorts(&case.journal);
+        for asked in questions(&case, &sorts) {
+            let (found, wanted) = (
+                answered(&path, asked.to_string()),
+                why(&case.journal, asked),
+            );
+            assert!(found == wanted, "{place}, {asked}");
+            assert!(sort_of(&sorts, asked).fits(&wanted), "{place}, {asked}");
+            *seen.entry(sort_of(&sorts, asked)).or_default() += 1;
+        }
+    }
+    println!("{seen:?}");
+    assert!(rarer(&seen, 1).is_empty(), "{seen:?}");
 }
 
 /// What a journal prints.
@@ -157,6 +182,28 @@ fn recipes_of_changes() {
     let records = read_block(&none, 0).unwrap();
     assert_eq!((records[0].subject, records[0].amount), (5, 1001));
     assert_eq!(replay(&none), "0 7 0 0 0\n");
+}
+
+/// The bytes of the pieces choose the first question: among the dispatches, or any number up to a block past the end.
+#[test]
+fn recipes_of_questions() {
+    // Admit 5, dispatch, report with block, dispatch, end of the block, dispatch: 1, 3 and 31 are dispatches.
+    let rest = [3, 5, 0, 0xf4, 1, 6, 7, 1, 0, 0, 0, 0, 6, 0, 6];
+    let asked = |low: u8, high: u8| {
+        let case = case(&[&[2, low, high], &rest[..]].concat());
+        let sorts = sorts(&case.journal);
+        assert_eq!((sorts.len(), sorts[1]), (62, Sort::Chosen(Named::None)));
+        assert_eq!(sorts[3], Sort::Idle(Named::One));
+        questions(&case, &sorts)
+    };
+    assert_eq!(
+        [0, 8, 16, 24, 29].map(|low| asked(low, 0)[0]),
+        [1, 3, 31, 1, 1]
+    );
+    assert_eq!([6, 7, 15, 255].map(|low| asked(low, 0)[0]), [0, 0, 1, 31]);
+    // 92 is past the last of them.
+    assert_eq!([0xe7, 0xe6, 0xef].map(|low| asked(low, 2)[0]), [92, 92, 0]);
+    assert!((0..=255).all(|low| asked(low, 7)[1] == 31));
 }
 
 /// The part that only the fuzzer's build has compiles, without a warning.

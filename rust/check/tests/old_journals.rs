@@ -1,4 +1,5 @@
-//! Journals of earlier versions: `mtrrun` and the model's replay print for each, to the byte, what the `mtrrun` of its version printed.
+//! Journals of earlier versions: `mtrrun` and the model's replay print for each, to the byte, what the `mtrrun` of its version printed, and
+//! `mtrwhy` answers as the model does.
 //! Those of 1.1.0 are from before there was an overrun limit, those of 2.0.0 from before there was a change of a reservation.
 //! journals-1.1/README.md and journals-2.0/README.md say where they are from.
 
@@ -8,9 +9,12 @@ use std::path::PathBuf;
 
 use check::journal;
 use check::late::Late;
-use check::program::{printed, root};
+use check::program::{answered, printed, root};
+use check::why::{drawn, rarer, sort_of, sorts, Sorts};
 use model::blocks::{kind, read_block, Record, BLOCK};
+use model::random::Rng;
 use model::replay::{replay, replay_with};
+use model::why::why;
 
 /// The folders, with how many journals are in each.
 const FOLDERS: [(&str, usize); 2] = [(BEFORE_OVERRUNS, 40), (BEFORE_CHANGES, 20)];
@@ -79,6 +83,29 @@ fn print_as_before() {
         assert!(answers.values().all(|&n| n >= least.0), "{answers:?}");
         assert!(refusals.values().all(|&n| n >= least.1), "{refusals:?}");
     }
+}
+
+/// `mtrwhy` and the model on some numbers of each: one of every sort that it has, a few more, and the last dispatch.
+#[test]
+fn the_same_causes() {
+    let mut r = Rng::new(58);
+    let mut seen = Sorts::new();
+    for (folder, _) in FOLDERS {
+        for (name, journal) in stored(folder, "blocks") {
+            let path = root().join(format!("rust/check/{folder}/{name}.blocks"));
+            let sorts = sorts(&journal);
+            let mut asked = drawn(&mut r, &sorts);
+            let last = sorts.iter().rposition(|sort| sort.is_dispatch());
+            asked.extend(last.map(|n| n as u64));
+            for n in asked {
+                let (found, wanted) = (answered(&path, n.to_string()), why(&journal, n));
+                assert!(found == wanted, "{folder}/{name}, {n}");
+                *seen.entry(sort_of(&sorts, n)).or_default() += 1;
+            }
+        }
+    }
+    println!("{seen:?}");
+    assert!(rarer(&seen, 3).is_empty(), "{seen:?}");
 }
 
 /// They are old: no start of the first has an overrun limit, and none has a change. Those of the second have limits, and overruns of every
