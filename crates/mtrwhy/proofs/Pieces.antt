@@ -2,13 +2,13 @@
 use Prim.Native.Nat.{ℕ, zero, _+_, _-_, _*_, _/_, _%_, min, _≤_, _<_}
 use mathlib.Core.Path.{_≡_, refl, sym, ap, subst, _∙_}
 use mathlib.Core.List.{List, [], _∷_, _++_}
-use mathlib.Core.Bool.{Bool, true, false, not, cond, _&&_}
+use mathlib.Core.Bool.{Bool, true, false, not, cond, _&&_, _||_}
 use native.Mathlib.Omega.{arith}
 use lib.ListN.{length, take, drop, length-append}
 use lib.Seq.{take-at}
-use lib.Dec.{T, leb, eqb}
-use borrow.Author.Tests.{le-leb, eqb-true}
-use Rattle.base.proofs.Bools.{cases, clash}
+use lib.Dec.{T, ltb, leb, eqb, le→leb}
+use borrow.Author.Tests.{le-leb, lt-ltb, eqb-true, eqb-false}
+use Rattle.base.proofs.Bools.{cases, holds, clash}
 use Rattle.text.specs.Decimal.{linesOf, lineOf, over, written, next}
 use Rattle.text.proofs.Area.{over-length}
 use Rattle.replay.specs.Replay.{blocksIn, leftBy, beginning}
@@ -19,19 +19,21 @@ use Rattle.why.specs.declared.Search.{Search}
 use Rattle.why.specs.declared.Looked.{Looked}
 use Rattle.why.specs.Search.{markedAll, searching, searchedBy, isIn, answerIn, hasRoom, looked, lookOf, areaAfter}
 use Rattle.why.specs.Inner.{Put}
-use Rattle.why.proofs.Looking.{Apart, short, past, apart, apart-not, Sought, sought-none}
+use Rattle.why.proofs.Looking.{in-yes, in-bounds, Apart, short, past, apart, apart-not, sought-none}
 use Rattle.why.proofs.Putting.{put-one}
 use Rattle.why.proofs.Sought.{found-why, absent-why, next-search}
 use Rattle.mtrwhy.specs.declared.Piece.{Piece}
+use Rattle.mtrwhy.specs.declared.Held.{Held}
 use Rattle.mtrwhy.specs.declared.Answer.{Answer}
-use Rattle.mtrwhy.specs.Inner.{Judged, Told}
+use Rattle.mtrwhy.specs.Inner.{Judged, Read, Sought, Told}
 
 -- after some pieces: the search over their bytes, none of whose blocks is the record's; or the answer for them
 pub record Sofar (asked read : ℕ) (q : Search) (found : Bool) (out : List ℕ) (used : ℕ) : Type 0 where
   pub bytes : List ℕ
   pub size : length bytes ≡ read
   pub needed : read ≤ 512 * (asked / 31 + 1)
-  pub none : found ≡ false → (q ≡ searchedBy bytes searching) × (isIn asked 0 (blocksIn bytes) ≡ false)
+  pub place : isIn asked 0 (blocksIn bytes) ≡ found
+  pub none : found ≡ false → q ≡ searchedBy bytes searching
   pub told : found ≡ true → (used ≤ length out) × (take used out ≡ linesOf (why bytes asked))
 
 -- before the first
@@ -48,7 +50,8 @@ sofar-none asked q out e = record {
   bytes = [];
   size = refl;
   needed = omega arith;
-  none = λ _. (e ∙ begun, none-yet asked);
+  place = none-yet asked;
+  none = λ _. e ∙ begun;
   told = λ t. absurd (clash false t refl);
 }
 
@@ -59,6 +62,7 @@ unreached asked read q found out used w f = record {
   bytes = w .bytes;
   size = w .size;
   needed = w .needed;
+  place = w .place ∙ f;
   none = λ _. w .none f;
   told = λ t. absurd (clash false t refl);
 }
@@ -96,10 +100,10 @@ module _ (asked read : ℕ) (q : Search) (o : List ℕ) (small : asked < 1844674
   blocks = omega (arith, w .size, whole)
 
   search : q ≡ searchedBy a searching
-  search = (w .none refl) .0
+  search = w .none refl
 
   apart-a : isIn asked 0 (blocksIn a) ≡ false
-  apart-a = (w .none refl) .1
+  apart-a = w .place
 
   size : length (a ++ b) ≡ read + r .read
   size = length-append a b ∙ omega (arith, w .size, g .size)
@@ -139,6 +143,19 @@ module _ (asked read : ℕ) (q : Search) (o : List ℕ) (small : asked < 1844674
   needs =
       omega (arith, g .needed, g .read, cond-most (r .failed) (r .got), place-is, blocks, w .size, w .needed, small)
 
+  reached : isIn asked place (blocksIn b) ≡ true → isIn asked 0 (blocksIn (a ++ b)) ≡ true
+  reached e =
+      let h = in-bounds asked place (blocksIn b) e in in-yes asked 0 (blocksIn (a ++ b)) (omega arith)
+      (omega (arith, h .1, count, place-is))
+
+  unreached-yet : isIn asked place (blocksIn b) ≡ false → isIn asked 0 (blocksIn (a ++ b)) ≡ false
+  unreached-yet e =
+      ap (isIn asked 0) count
+      ∙ apart-not asked 0 (blocksIn a + blocksIn b) (both (apart asked 0 (blocksIn a) apart-a) (apart asked place (blocksIn b) e))
+
+  within-out : (t : List ℕ) → r .used ≡ length t → out ≡ over o 0 t → r .used ≤ length out
+  within-out t u e = over-most o t out (r .used) u e (g .within)
+
   pub sofar-more : Sofar asked (read + r .read) (r .search) (r .found) out (r .used)
   sofar-more =
       cases (isIn asked place (blocksIn b))
@@ -148,30 +165,26 @@ module _ (asked read : ℕ) (q : Search) (o : List ℕ) (small : asked < 1844674
       let used : r .used ≡ length t = ap (λ (x : Looked). x .used) l in
       let area : out ≡ over o 0 t = area-found e in
       let text : take (r .used) out ≡ t = ap (λ (n : ℕ). take n out) used ∙ ap (take (length t)) area ∙ front o t in
-      let inside : r .used ≤ length out = within-out t used area in
+      let found : r .found ≡ true = ap (λ (x : Looked). x .found) l in
       record {
         bytes = a ++ b;
         size = size;
         needed = needs;
-        none = λ f. absurd (clash (r .found) (ap (λ (x : Looked). x .found) l) f);
-        told = λ _. (inside, text ∙ ap linesOf answer);
+        place = reached e ∙ sym found;
+        none = λ f. absurd (clash (r .found) found f);
+        told = λ _. (within-out t used area, text ∙ ap linesOf answer);
       })
       (λ e.
       let l = looks false e in
+      let found : r .found ≡ false = ap (λ (x : Looked). x .found) l in
       record {
         bytes = a ++ b;
         size = size;
         needed = needs;
-        none = λ _. (
-          ap (λ (x : Looked). x .search) l ∙ ap (searchedBy b) search ∙ next-search (blocksIn a) a b searching blocks,
-          ap (isIn asked 0) count
-              ∙ apart-not asked 0 (blocksIn a + blocksIn b) (both (apart asked 0 (blocksIn a) apart-a) (apart asked place (blocksIn b) e)),
-        );
-        told = λ f. absurd (clash (r .found) f (ap (λ (x : Looked). x .found) l));
+        place = unreached-yet e ∙ sym found;
+        none = λ _. ap (λ (x : Looked). x .search) l ∙ ap (searchedBy b) search ∙ next-search (blocksIn a) a b searching blocks;
+        told = λ f. absurd (clash (r .found) f found);
       })
-    where
-      within-out : (t : List ℕ) → r .used ≡ length t → out ≡ over o 0 t → r .used ≤ length out
-      within-out t u e = over-most o t out (r .used) u e (g .within)
 
 -- the piece leaves the file going on only where it is full and the record is not reached
 more-not : (found : Bool) (n : ℕ) → (not found && eqb n 16384) ≡ true → (found ≡ false) × (n ≡ 16384)
@@ -185,47 +198,122 @@ goes-on b asked q o out r g t = more-not (r .found) (r .read) (sym (g .more) ∙
 pub read-most : (b : List ℕ) (asked : ℕ) (q : Search) (o out : List ℕ) (r : Piece) → Judged b asked q o out r → r .read ≤ 16384
 read-most b asked q o out r g = omega (arith, g .read, cond-most (r .failed) (r .got), g .most)
 
+-- and it stops at the record's place, or where the file ends or a read fails
+pub stops : (b : List ℕ) (asked : ℕ) (q : Search) (o out : List ℕ) (r : Piece) → Judged b asked q o out r → r .more ≡ false
+    → T (r .found || ltb (r .got) 16384)
+stops b asked q o out r g f = by-found (r .found) (sym (g .more) ∙ f)
+  where
+    got-less : (failed : Bool) → r .failed ≡ failed → (r .read ≡ 16384 → ⊥) → r .got < 16384
+    got-less true e ne = g .short e
+    got-less false e ne = omega (arith, g .read ∙ ap (λ (x : Bool). cond x (r .got / 512 * 512) (r .got)) e, g .most, ne)
+
+    by-found : (found : Bool) → (not found && eqb (r .read) 16384) ≡ false → T (found || ltb (r .got) 16384)
+    by-found true e = tt
+    by-found false e = holds (ltb (r .got) 16384) (lt-ltb (r .got) 16384 (got-less (r .failed) refl (eqb-false (r .read) 16384 e)))
+
 -- The end.
+
+abbrev held-of : List ℕ → ℕ → ℕ → ℕ → Bool → Bool → Held
+held-of text read used got found failed = record { text = text; read = read; used = used; got = got; found = found; failed = failed }
+
+-- the last way out of three
+last-out : (a b c : Bool) → T c → T (a || (b || c))
+last-out true b c t = tt
+last-out false true c t = tt
+last-out false false c t = t
+
+first-out : (a b c : Bool) → T (a || b) → T (a || (b || c))
+first-out true b c t = tt
+first-out false true c t = tt
+first-out false false c t = absurd t
+
+pub record Count (read got : ℕ) (failed found : Bool) : Type 0 where
+  pub full : ℕ
+  pub counted : found ≡ false → read ≡ 16384 * full + cond failed (got / 512 * 512) got
+
+module _ (asked read : ℕ) (q : Search) (found : Bool) (out : List ℕ) (used got : ℕ) (failed : Bool) (w : Sofar asked read q found out used)
+    (long : length out ≡ 2730) (n : Count read got failed found) where
+  read-by : T (found || (ltb got 16384 || leb 9223372036854775808 read)) → Read asked read got failed found
+  read-by t = record {
+    bytes = w .bytes;
+    size = w .size;
+    needed = w .needed;
+    place = w .place;
+    full = n .full;
+    counted = n .counted;
+    ended = t;
+  }
+
+  sought-by : T (found || (ltb got 16384 || leb 9223372036854775808 read)) → Sought asked (held-of out read used got found failed)
+  unfolding read-by
+  sought-by t = record {
+    read = read-by t;
+    size = long;
+    within = λ f. omega (arith, (w .told f) .0, long);
+    text = λ f. (w .told f) .1;
+  }
+
+  pub sought-stopped : T (found || ltb got 16384) → Sought asked (held-of out read used got found failed)
+  sought-stopped t = sought-by (first-out found (ltb got 16384) (leb 9223372036854775808 read) t)
+
+  pub sought-counted : 9223372036854775808 ≤ read → Sought asked (held-of out read used got found failed)
+  sought-counted h = sought-by (last-out found (ltb got 16384) (leb 9223372036854775808 read) (le→leb 9223372036854775808 read h))
 
 abbrev answer-of : List ℕ → ℕ → ℕ → ℕ → Bool → Answer
 answer-of text read used got failed = record { text = text; read = read; used = used; got = got; failed = failed }
 
-pub told-found : (asked read got : ℕ) (q : Search) (found : Bool) (out : List ℕ) (used : ℕ) → Sofar asked read q found out used
-    → found ≡ true
-    → Told asked (answer-of out read used got false)
-told-found asked read got q found out used w t = record {
-  bytes = w .bytes;
-  size = w .size;
-  needed = w .needed;
-  within = (w .told t) .0;
-  answer = λ _. (w .told t) .1;
-}
+module _ (asked : ℕ) (h : Held) (w : Sought asked h) where
+  pub told-found : h .found ≡ true → Told asked (answer-of (h .text) (h .read) (h .used) (h .got) false)
+  told-found t = record {
+    reached = true;
+    read = record {
+      bytes = w .read .bytes;
+      size = w .read .size;
+      needed = w .read .needed;
+      place = w .read .place ∙ t;
+      full = 0;
+      counted = λ f. absurd (clash true refl f);
+      ended = tt;
+    };
+    failing = λ f. absurd (clash false f refl);
+    within = omega (arith, w .within t, w .size);
+    answer = λ _. w .text t;
+  }
 
-pub told-failed : (asked read got : ℕ) (q : Search) (found : Bool) (out : List ℕ) (used : ℕ) → Sofar asked read q found out used
-    → Told asked (answer-of out read 0 got true)
-told-failed asked read got q found out used w = record {
-  bytes = w .bytes;
-  size = w .size;
-  needed = w .needed;
-  within = omega arith;
-  answer = λ t. absurd (clash true refl t);
-}
+  read-unreached : (failed : Bool) → h .failed ≡ failed → h .found ≡ false → Read asked (h .read) (h .got) failed false
+  read-unreached failed e f = record {
+    bytes = w .read .bytes;
+    size = w .read .size;
+    needed = w .read .needed;
+    place = w .read .place ∙ f;
+    full = w .read .full;
+    counted = λ _. w .read .counted f ∙ ap (λ (x : Bool). 16384 * w .read .full + cond x (h .got / 512 * 512) (h .got)) e;
+    ended = subst (λ (x : Bool). T (x || (ltb (h .got) 16384 || leb 9223372036854775808 (h .read)))) f (w .read .ended);
+  }
 
-pub told-absent : (asked read got : ℕ) (q : Search) (found : Bool) (o : List ℕ) (used : ℕ) (out : List ℕ) (end : ℕ)
-    → Sofar asked read q found o used
-    → found ≡ false → length o ≡ 2730 → end ≡ next o 0 (lineOf (21 ∷ [])) → out ≡ written o 0 (lineOf (21 ∷ []))
-    → Told asked (answer-of out read end got false)
-told-absent asked read got q found o used out end w f room e t =
-    let put = put-one o 21 out end (omega arith) (omega (arith, room)) e t in
-    record {
-      bytes = w .bytes;
-      size = w .size;
-      needed = w .needed;
-      within = over-most o (linesOf absent) out end (put .ends) (put .text) (put .within);
-      answer = λ _.
-          ap (λ (n : ℕ). take n out) (put .ends) ∙ ap (take (length (linesOf absent))) (put .text) ∙ front o (linesOf absent)
-          ∙ ap linesOf (sym (absent-why (w .bytes) asked ((w .none f) .1)));
-    }
+  pub told-failed : h .found ≡ false → h .failed ≡ true → Told asked (answer-of (h .text) (h .read) 0 (h .got) true)
+  told-failed f t = record {
+    reached = false;
+    read = read-unreached true t f;
+    failing = λ _. refl;
+    within = omega arith;
+    answer = λ z. absurd (clash true refl z);
+  }
+
+  pub told-absent : h .found ≡ false → h .failed ≡ false → (out : List ℕ) (end : ℕ) → end ≡ next (h .text) 0 (lineOf (21 ∷ []))
+      → out ≡ written (h .text) 0 (lineOf (21 ∷ [])) → Told asked (answer-of out (h .read) end (h .got) false)
+  unfolding read-unreached
+  told-absent f g out end e t =
+      let put = put-one (h .text) 21 out end (omega arith) (omega (arith, w .size)) e t in
+      record {
+        reached = false;
+        read = read-unreached false g f;
+        failing = λ z. absurd (clash false z refl);
+        within = over-most (h .text) (linesOf absent) out end (put .ends) (put .text) (put .within);
+        answer = λ _.
+            ap (λ (n : ℕ). take n out) (put .ends) ∙ ap (take (length (linesOf absent))) (put .text) ∙ front (h .text) (linesOf absent)
+            ∙ ap linesOf (sym (absent-why (w .read .bytes) asked (w .read .place ∙ f)));
+      }
 
 -- What a search over a piece answers where the area has room.
 pub has-room : (bytes : List ℕ) (asked : ℕ) (o : List ℕ) (q : Search) (x : Looked) → length o ≡ 2730 → x ≡ lookOf bytes asked o q
