@@ -193,12 +193,12 @@ pub fn failing(case: &Case) -> usize {
     number(case) * 37 % (case.journal.len() + 1)
 }
 
-/// What is printed where the reads fail after so many bytes, and none where that is said instead. Where not one block was
-/// read it is 4.
+/// What is printed where the reads fail after so many bytes, and none where that is said instead. Where nothing was read it
+/// is 4.
 pub fn cut(journal: &[u8], asked: u64, bytes: usize) -> Option<Vec<u8>> {
     match why_from(journal[..bytes].chain(Fails), asked) {
         Ok(answer) => Some(answer),
-        Err(_) if bytes < BLOCK => Some(b"4\n".to_vec()),
+        Err(_) if bytes == 0 => Some(b"4\n".to_vec()),
         Err(_) => None,
     }
 }

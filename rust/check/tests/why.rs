@@ -11,10 +11,6 @@ use std::io::{pipe, Read, Write};
 use std::path::Path;
 use std::process::Stdio;
 
-/// Bytes that the program reads at once, and blocks.
-const PIECE: usize = 16384;
-const BLOCKS: usize = PIECE / BLOCK;
-
 /// Asks the program about a number and counts the sort of the answer, which is the model's.
 fn ask(path: &Path, input: &[u8], sorts: &[Sort], asked: u64, text: &str, seen: &mut Sorts) {
     let (found, wanted) = (answered(path, text), why(input, asked));
@@ -303,8 +299,8 @@ fn refused_blocks() {
     assert!(seen[&Sort::Stopped] > 50, "{seen:?}");
 }
 
-/// The program reads whole pieces, up to that of the record's block and no further; all if there is no such block. With a bad
-/// argument it reads nothing. The journal lies in a pipe, and what was not taken is still there.
+/// The program reads up to the end of the record's block and no further; all if there is no such block. With a bad argument it
+/// reads nothing. The journal lies in a pipe, and what was not taken is still there.
 #[test]
 fn reads_no_further_than_needed() {
     let mut r = Rng::new(57);
@@ -323,10 +319,9 @@ fn reads_no_further_than_needed() {
     };
     for place in [0, 1, 30, 31, 32, 33, 63, 64, 95, 96, 119] {
         for n in [31 * place, 31 * place + 15, 31 * place + 30] {
-            let wanted = PIECE * (place as usize / BLOCKS + 1);
             let (printed, bytes) = taken(&n.to_string());
             assert_eq!(printed, why(&input, n));
-            assert_eq!(bytes, wanted.min(input.len()), "{n}");
+            assert_eq!(bytes, BLOCK * (place as usize + 1), "{n}");
         }
     }
     for far in [31 * 120, 31 * 128, 1u64 << 32, 9_999_999_999_999_999_999] {
