@@ -1,8 +1,7 @@
 -- What the parts of the program promise. Of each piece: every byte that was read is judged, or, after a read that failed, the whole blocks
 -- of them, by the definition of a search. Of the whole run: the answer is `why` of some bytes of the number judged, and reading went on
--- until
--- the record's place was among them, the file ended or a read failed. Which bytes the journal has, and what is written, no contract can
--- say.
+-- until the record's place was among them, the file ended or a read failed. Which bytes the journal has, and what is written, no contract
+-- can say.
 use Prim.Native.Nat.{ℕ, _+_, _-_, _*_, _/_, _≤_, _<_}
 use mathlib.Core.Path.{_≡_}
 use mathlib.Core.List.{List}
@@ -19,8 +18,8 @@ use Rattle.mtrwhy.specs.declared.Held.{Held}
 use Rattle.mtrwhy.specs.declared.Answer.{Answer}
 
 -- a piece: the bytes judged, by the search before them, are the first `read` of the `got` bytes that were read. At most 16384 are read,
--- fewer
--- where a read fails, and none past the record's block. The file goes on where the record's place was not reached and all 16384 were judged
+-- fewer where a read fails, and none past the record's block. The file goes on where the record's place was not reached and all 16384 were
+-- judged
 pub record Judged (bytes : List ℕ) (asked : ℕ) (q : Search) (o out : List ℕ) (r : Piece) : Type 0 where
   pub size : length bytes ≡ r .read
   pub read : r .read ≡ cond (r .failed) (r .got / 512 * 512) (r .got)

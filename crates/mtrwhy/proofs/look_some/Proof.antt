@@ -1,6 +1,5 @@
 -- `look_some` meets its contract: what was read, of what was wanted, is searched, or its whole blocks after a read that failed; and the
--- area
--- has room.
+-- area has room.
 use mathlib.Core.Path.{_≡_, refl, sym, _∙_}
 use mathlib.Core.List.{List, _++_}
 use mathlib.Core.Bool.{Bool, true, false, not, _&&_}

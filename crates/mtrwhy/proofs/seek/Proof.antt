@@ -1,8 +1,6 @@
 -- `seek` meets its contract. The loop's invariant: what is held is the search over the bytes read or the answer for them (`Sofar`); where
--- the
--- file goes on every piece was full, and the record is not reached, and where it does not, that has one of its reasons; the areas keep
--- their
--- lengths; and the count of bytes has room for the pieces that may come.
+-- the file goes on every piece was full, and the record is not reached, and where it does not, that has one of its reasons; the areas keep
+-- their lengths; and the count of bytes has room for the pieces that may come.
 use mathlib.Core.Path.{_≡_, refl, sym, ap, _∙_}
 use mathlib.Core.List.{List}
 use mathlib.Core.Bool.{Bool, true, false, cond, _||_}
