@@ -7,6 +7,7 @@ use native.Mathlib.Omega.{arith}
 use borrow.Author.Tests.{le-leb, eqb-true}
 use lib.Dec.{leb, eqb, T}
 use lib.ListN.{length, length-append}
+use Rattle.program.proofs.Reading.{cond-most}
 use Rattle.replay.specs.declared.Replay.{Replay}
 use Rattle.replay.specs.declared.Ran.{Ran}
 use Rattle.replay.specs.Replay.{blocksIn, leftBy, beginning}
@@ -45,11 +46,6 @@ held-more n q bytes r h z w =
           ∙ sym (pieces-left ((length a + 511) / 512) ((length bytes + 511) / 512) a bytes beginning whole)
           ∙ ap (λ (k : ℕ). leftBy k (a ++ bytes) beginning) (sym count);
     }
-
--- no more bytes are replayed than were read
-pub cond-most : (failed : Bool) (got : ℕ) → cond failed (got / 512 * 512) got ≤ got
-cond-most true got = omega arith
-cond-most false got = omega arith
 
 pub read-most : (bytes : List ℕ) (p : Replay) (r : Piece) → Replayed bytes p r → r .read ≤ 16384
 read-most bytes p r w = omega (arith, w .read, cond-most (r .failed) (r .got), w .most)

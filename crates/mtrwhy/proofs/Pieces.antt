@@ -9,6 +9,7 @@ use lib.Seq.{take-at}
 use lib.Dec.{T, ltb, leb, eqb, le→leb}
 use borrow.Author.Tests.{le-leb, lt-ltb, eqb-true, eqb-false}
 use Rattle.base.proofs.Bools.{cases, holds, clash}
+use Rattle.program.proofs.Reading.{cond-most}
 use Rattle.text.specs.Decimal.{linesOf, lineOf, over, written, next}
 use Rattle.text.proofs.Area.{over-length}
 use Rattle.replay.specs.Replay.{blocksIn, leftBy, beginning}
@@ -75,11 +76,6 @@ front o t = take-at t (drop (0 + length t) o) (length t) refl
 over-most : (o t out : List ℕ) (used : ℕ) → used ≡ length t → out ≡ over o 0 t → used ≤ length o → used ≤ length out
 over-most o t out used u e h =
     let n : length out ≡ length o = ap length e ∙ over-length o 0 t (omega (arith, u, h)) in omega (arith, n, h)
-
--- no more bytes are judged than were read
-pub cond-most : (failed : Bool) (got : ℕ) → cond failed (got / 512 * 512) got ≤ got
-cond-most true got = omega arith
-cond-most false got = omega arith
 
 -- One piece more.
 module _ (asked read : ℕ) (q : Search) (o : List ℕ) (small : asked < 18446744073709551616) (room : length o ≡ 2730)

@@ -9,9 +9,10 @@ use lib.ListN.{length, take, length-take}
 use lib.Seq.{length-take-le}
 use Rattle.replay.specs.declared.Replay.{Replay}
 use Rattle.program.specs.declared.Filled.{Filled}
+use Rattle.program.proofs.Reading.{cond-most}
 use Rattle.mtrrun.specs.declared.Piece.{Piece}
 use Rattle.mtrrun.specs.Inner.{Replayed}
-use Rattle.mtrrun.proofs.Pieces.{run-left, cond-most}
+use Rattle.mtrrun.proofs.Pieces.{run-left}
 use borrow.Author.Needs.{needs}
 use Rattle.mtrrun.proofs.run_some.Statement.{statement}
 use Rattle.mtrrun.proofs.run_some.Tie as tie

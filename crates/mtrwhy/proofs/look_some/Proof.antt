@@ -9,8 +9,9 @@ use lib.ListN.{length, take, drop, length-append, length-drop}
 use lib.Seq.{length-take-le}
 use borrow.Author.Needs.{needs}
 use Rattle.program.specs.declared.Filled.{Filled}
+use Rattle.program.proofs.Reading.{cond-most}
 use Rattle.mtrwhy.specs.Inner.{Judged}
-use Rattle.mtrwhy.proofs.Pieces.{cond-most, has-room}
+use Rattle.mtrwhy.proofs.Pieces.{has-room}
 use Rattle.mtrwhy.proofs.look_some.Statement.{statement}
 use Rattle.mtrwhy.proofs.look_some.Tie as tie
 
