@@ -13,7 +13,8 @@
 //! - [`calls`]: the calls as values, and the records that stand for them.
 //! - [`replay`]: what `mtrrun` prints for a journal.
 //! - [`why`]: what `mtrwhy` prints for a journal and a record's number.
-//! - [`random`]: generators of states, calls and journals for tests.
+//! - [`table`]: customers' own priority tables.
+//! - [`random`]: generators of states, calls, journals and tables for tests.
 
 #![forbid(unsafe_code)]
 
@@ -24,4 +25,5 @@ pub mod calls;
 pub mod random;
 pub mod replay;
 pub mod rule;
+pub mod table;
 pub mod why;

@@ -1,10 +1,11 @@
-//! Generators of states, calls and journals for tests.
+//! Generators of states, calls, journals and tables for tests.
 
 mod blocking;
 mod broken;
 mod calls;
 mod journals;
 mod states;
+mod tables;
 
 use crate::rule::{METER_LIMIT, METER_MAX};
 
@@ -13,6 +14,7 @@ pub use broken::broken_states;
 pub use calls::call;
 pub use journals::{any_record, journal};
 pub use states::{hostile_state, sound_state};
+pub use tables::{any_table, asked_priority, damaged_tables, usable_table};
 
 /// SplitMix64.
 #[derive(Clone, Debug)]

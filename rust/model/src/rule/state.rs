@@ -54,6 +54,8 @@ pub mod answer {
     pub const FORM: u32 = 19;
     pub const NOT_STARTED: u32 = 20;
     pub const NO_DISPATCH: u32 = 21;
+    pub const ROW: u32 = 22;
+    pub const PRIORITY: u32 = 23;
 }
 
 #[repr(C)]

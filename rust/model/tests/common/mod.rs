@@ -9,11 +9,15 @@ use model::blocks::{kind, write_block, Record};
 use model::calls::{record, Call};
 use model::random::Rng;
 use model::rule::Scheduler;
+use model::table::{Line, Row, Table, ROWS};
 
 pub const TICK: u64 = 0;
 pub const BLOCK: u64 = 1;
 pub const YIELD: u64 = 2;
 pub const EXIT: u64 = 3;
+
+/// A number that is 0 once cut to 32 bits.
+pub const BEYOND: u64 = 1 << 32;
 
 /// Threads 1, 2 and on of these reservations in group 0.
 pub fn with(m: u64, p: u64, o: u64, reservations: &[u64]) -> Scheduler {
@@ -109,5 +113,33 @@ impl Read for Drip<'_> {
         buffer[..n].copy_from_slice(&self.0[..n]);
         self.0 = &self.0[n..];
         Ok(n)
+    }
+}
+
+/// A row of a priority table.
+pub fn row(first: u64, last: u64, reservation: u64) -> Row {
+    Row {
+        first,
+        last,
+        reservation,
+    }
+}
+
+/// The table of these rows; the entries past them hold `rest`.
+pub fn table_with(rows: &[Row], rest: Row) -> Table {
+    let mut table = Table {
+        rows: [rest; ROWS],
+        count: rows.len() as u64,
+    };
+    table.rows[..rows.len()].copy_from_slice(rows);
+    table
+}
+
+/// What a priority table answers.
+pub fn line(answer: u32, place: u32, reservation: u32) -> Line {
+    Line {
+        answer,
+        place,
+        reservation,
     }
 }

@@ -1,5 +1,6 @@
-//! Wrong programs. The random calls, and the random journals where a listing can
-//! show it, must tell each from the rule.
+//! Wrong programs. The random calls and tables, and the random journals where a
+//! listing can show it, must tell each from the rule.
 
 mod change;
 mod overrun;
+mod table;
