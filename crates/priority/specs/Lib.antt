@@ -1,1 +1,2 @@
 pub mod Priority
+pub mod Table
