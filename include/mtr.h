@@ -1,5 +1,5 @@
 /*
- * The move-to-rear list scheduler (MTR-LS), version 2.3.0, for C11 and C++11 or
+ * The move-to-rear list scheduler (MTR-LS), version 2.4.0, for C11 and C++11 or
  * later on x86-64.
  *
  * Written from the Rattle sources; do not edit. To renew it:
@@ -78,6 +78,7 @@
  *     mtr_sound             5752            3936
  *     mtr_priority            16               8
  *     mtr_subtree           8252            6647
+ *     mtr_priority_under     600             900
  *     mtr_lag              11224            4545
  *     mtr_share            11216            4550
  *     mtr_roster           14600           31288
@@ -145,25 +146,27 @@ extern "C" {
 MTR_STRUCT(size_t, 8, 8);
 
 /* The version as text. */
-#define MTR_VERSION_TEXT "2.3.0"
+#define MTR_VERSION_TEXT "2.4.0"
 
 /* The version; mtr_version answers that of the library. */
 
 /* Major. */
 #define MTR_VERSION_MAJOR 2
 /* Minor. */
-#define MTR_VERSION_MINOR 3
+#define MTR_VERSION_MINOR 4
 /* Patch. */
 #define MTR_VERSION_PATCH 0
 /* One number: 10000 times the major, 100 times the minor, and the patch. */
-#define MTR_VERSION 20300
+#define MTR_VERSION 20400
 
-/* Numbers of threads and groups, and the parts of a block. */
+/* Numbers of threads, groups and rows, and the parts of a block. */
 
 /* Most threads; their numbers begin at 0. */
 #define MTR_THREADS 64
 /* Most groups; their numbers begin at 0. */
 #define MTR_GROUPS 16
+/* Most rows of a table of priorities. */
+#define MTR_PRIORITY_ROWS 10
 /* Bytes of an event block. */
 #define MTR_BLOCK_BYTES 512
 /* Most records of an event block. */
@@ -219,7 +222,10 @@ typedef enum mtr_answer MTR_UNSIGNED {
      * The group's number is above 15, already open or not above the parent's.
      */
     MTR_REFUSED_GROUP_NUMBER = 3,
-    /* The ceiling or reservation is outside its range. */
+    /*
+     * The ceiling, reservation or priority, or a table's number of rows, is
+     * outside its range.
+     */
     MTR_REFUSED_AMOUNT = 4,
     /* The ceiling or reservation exceeds what the group has free. */
     MTR_REFUSED_NO_ROOM = 5,
@@ -254,7 +260,14 @@ typedef enum mtr_answer MTR_UNSIGNED {
     /*
      * In what mtrrun prints alone: no start is accepted since a refused block.
      */
-    MTR_REFUSED_NOT_STARTED = 20
+    MTR_REFUSED_NOT_STARTED = 20,
+    /*
+     * A row of the table is upside down, or has a priority outside 1 to 10 or a
+     * reservation outside 1 to 1000.
+     */
+    MTR_REFUSED_TABLE_ROW = 22,
+    /* A priority stands in no row of the table or in several. */
+    MTR_REFUSED_TABLE_COVER = 23
 } mtr_answer;
 
 /* Reasons of a report. */
@@ -332,7 +345,7 @@ MTR_MUST_USE static inline const char *mtr_answer_text(mtr_answer answer)
     case MTR_REFUSED_GROUP_NUMBER:
         return "the group's number is above 15, already open or not above the parent's";
     case MTR_REFUSED_AMOUNT:
-        return "the ceiling or reservation is outside its range";
+        return "the ceiling, reservation or priority, or a table's number of rows, is outside its range";
     case MTR_REFUSED_NO_ROOM:
         return "the ceiling or reservation exceeds what the group has free";
     case MTR_REFUSED_GROUP_IN_USE:
@@ -365,6 +378,10 @@ MTR_MUST_USE static inline const char *mtr_answer_text(mtr_answer answer)
         return "the block or a record has not the form that is asked for";
     case MTR_REFUSED_NOT_STARTED:
         return "in what mtrrun prints alone: no start is accepted since a refused block";
+    case MTR_REFUSED_TABLE_ROW:
+        return "a row of the table is upside down, or has a priority outside 1 to 10 or a reservation outside 1 to 1000";
+    case MTR_REFUSED_TABLE_COVER:
+        return "a priority stands in no row of the table or in several";
     }
     return "no listed answer";
 }
@@ -486,6 +503,47 @@ MTR_STRUCT(mtr_total, 8, 4);
 MTR_FIELD(mtr_total, answer, 0, 4);
 MTR_FIELD(mtr_total, thousandths, 4, 4);
 
+/*
+ * A row of a table of priorities: those from first to last have its
+ * reservation.
+ */
+typedef struct mtr_priority_row {
+    uint64_t first;
+    uint64_t last;
+    uint64_t reservation;
+} mtr_priority_row;
+MTR_STRUCT(mtr_priority_row, 24, 8);
+MTR_FIELD(mtr_priority_row, first, 0, 8);
+MTR_FIELD(mtr_priority_row, last, 8, 8);
+MTR_FIELD(mtr_priority_row, reservation, 16, 8);
+
+/*
+ * A table of priorities: the first `count` rows. What stands past them is not
+ * looked at.
+ */
+typedef struct mtr_priority_table {
+    mtr_priority_row rows[10];
+    uint64_t count;
+} mtr_priority_table;
+MTR_STRUCT(mtr_priority_table, 248, 8);
+MTR_FIELD(mtr_priority_table, rows, 0, 240);
+MTR_FIELD(mtr_priority_table, count, 240, 8);
+
+/*
+ * The reservation of a priority under a table. answer: 0, or the refusal;
+ * place: the row or the priority of a refusal with 22 or 23, else 0. The
+ * reservation of a refusal is 0.
+ */
+typedef struct mtr_priority_line {
+    uint32_t answer;
+    uint32_t place;
+    uint32_t reservation;
+} mtr_priority_line;
+MTR_STRUCT(mtr_priority_line, 12, 4);
+MTR_FIELD(mtr_priority_line, answer, 0, 4);
+MTR_FIELD(mtr_priority_line, place, 4, 4);
+MTR_FIELD(mtr_priority_line, reservation, 8, 4);
+
 /* A thread's lag. answer: 0, or the refusal, with a lag of 0. */
 typedef struct mtr_lag_line {
     uint64_t answer;
@@ -597,6 +655,8 @@ mtr_reply mtr_by_value_change(mtr_scheduler state, uint64_t number,
 uint32_t mtr_by_value_sound(mtr_scheduler state);
 mtr_mapped mtr_by_value_priority(uint64_t priority);
 mtr_total mtr_by_value_subtree(mtr_scheduler state, uint64_t group);
+mtr_priority_line mtr_by_value_priority_under(mtr_priority_table table,
+    uint64_t priority);
 mtr_lag_line mtr_by_value_lag(mtr_scheduler state, uint64_t number);
 mtr_share_line mtr_by_value_share(mtr_scheduler state, uint64_t number);
 uint32_t mtr_by_value_roster(mtr_scheduler state, mtr_entry *table,
@@ -864,6 +924,39 @@ MTR_MUST_USE static inline mtr_answer mtr_subtree(const mtr_scheduler *state,
     }
     return MTR_CAST(mtr_answer, reply.answer);
 }
+
+/* Tables of priorities */
+
+/*
+ * The reservation of a priority under a customer's own table: that of the one
+ * row in which the priority stands. In a table that can be used every row is
+ * well formed and each priority from 1 to 10 stands in exactly one. Rows past
+ * the count are not looked at.
+ *
+ * Refuses, the first that applies:
+ *   4 MTR_REFUSED_AMOUNT: the number of rows is outside 1 to 10
+ *   22 MTR_REFUSED_TABLE_ROW: a row is upside down, or has a priority
+ *       outside 1 to 10 or a reservation outside 1 to 1000, and place is the
+ *       first such row, from 0
+ *   23 MTR_REFUSED_TABLE_COVER: a priority stands in no row or in several,
+ *       and place is the lowest such priority
+ *   4 MTR_REFUSED_AMOUNT: the priority that is asked for is outside 1 to 10
+ * The table is unchanged.
+ */
+MTR_MUST_USE static inline mtr_priority_line mtr_priority_under(const mtr_priority_table *table,
+    uint64_t priority)
+{
+    return mtr_by_value_priority_under(*table, priority);
+}
+
+/*
+ * The table that gives every priority what it has where no table is given: a
+ * row for each, from the highest, 10 with 20, down to the lowest, 1 with 11.
+ *
+ * Refuses nothing.
+ * It takes no state, so that any is unchanged.
+ */
+mtr_priority_table mtr_standard_table(void);
 
 /* Accounts */
 

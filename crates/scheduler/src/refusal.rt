@@ -22,7 +22,7 @@ pub const NO_GROUP: u32 = 2;
 // The group's number is above 15, already open or not above the parent's.
 pub const GROUP_NUMBER: u32 = 3;
 
-// The ceiling or reservation is outside its range.
+// The ceiling, reservation or priority, or a table's number of rows, is outside its range.
 pub const AMOUNT: u32 = 4;
 
 // The ceiling or reservation exceeds what the group has free.

@@ -48,8 +48,9 @@ pub struct Family {
 
 /// The modules of crates/abi in the order in which they are printed, and what
 /// each is about.
-pub const SECTIONS: [(&str, &str); 4] = [
+pub const SECTIONS: [(&str, &str); 5] = [
     ("calls", "The scheduler's calls"),
+    ("tables", "Tables of priorities"),
     ("roster", "Accounts"),
     ("blocks", "Event blocks"),
     ("version", "Version"),
@@ -68,6 +69,7 @@ pub const NOT_STARTED: &str = "REFUSED_NOT_STARTED";
 const SCHEDULER: &str = "crates/scheduler/src/lib.rt";
 const RUN: &str = "crates/scheduler/src/threads.rt";
 const PRIORITY: &str = "crates/priority/src/lib.rt";
+const TABLE: &str = "crates/priority/src/table.rt";
 const REFUSAL: &str = "crates/scheduler/src/refusal.rt";
 const ROSTER: &str = "crates/accounts/src/roster.rt";
 const RECORD: &str = "crates/record/src/lib.rt";
@@ -105,7 +107,7 @@ pub const FAMILIES: [Family; 10] = [
         ],
     },
     Family {
-        doc: "Numbers of threads and groups, and the parts of a block.",
+        doc: "Numbers of threads, groups and rows, and the parts of a block.",
         of: "usize",
         c: "",
         names: &[
@@ -118,6 +120,11 @@ pub const FAMILIES: [Family; 10] = [
                 "GROUPS",
                 constant(SCHEDULER, "Scheduler::GROUPS"),
                 "Most groups; their numbers begin at 0.",
+            ),
+            one(
+                "PRIORITY_ROWS",
+                constant(TABLE, "ROWS"),
+                "Most rows of a table of priorities.",
             ),
             one(
                 "BLOCK_BYTES",
@@ -253,6 +260,16 @@ pub const FAMILIES: [Family; 10] = [
                 NOT_STARTED,
                 constant(BATCH, "HALTED"),
                 "In what mtrrun prints alone: no start is accepted since a refused block.",
+            ),
+            one(
+                "REFUSED_TABLE_ROW",
+                constant(TABLE, "ROW"),
+                "A row of the table is upside down, or has a priority outside 1 to 10 or a reservation outside 1 to 1000.",
+            ),
+            one(
+                "REFUSED_TABLE_COVER",
+                constant(TABLE, "COVER"),
+                "A priority stands in no row of the table or in several.",
             ),
         ],
     },

@@ -34,18 +34,20 @@ macro_rules! layout {
 /// Major.
 pub const VERSION_MAJOR: u32 = 2;
 /// Minor.
-pub const VERSION_MINOR: u32 = 3;
+pub const VERSION_MINOR: u32 = 4;
 /// Patch.
 pub const VERSION_PATCH: u32 = 0;
 /// One number: 10000 times the major, 100 times the minor, and the patch.
-pub const VERSION: u32 = 20300;
+pub const VERSION: u32 = 20400;
 
-// Numbers of threads and groups, and the parts of a block.
+// Numbers of threads, groups and rows, and the parts of a block.
 
 /// Most threads; their numbers begin at 0.
 pub const THREADS: usize = 64;
 /// Most groups; their numbers begin at 0.
 pub const GROUPS: usize = 16;
+/// Most rows of a table of priorities.
+pub const PRIORITY_ROWS: usize = 10;
 /// Bytes of an event block.
 pub const BLOCK_BYTES: usize = 512;
 /// Most records of an event block.
@@ -97,7 +99,8 @@ pub const REFUSED_SETTINGS: u32 = 1;
 pub const REFUSED_NO_GROUP: u32 = 2;
 /// The group's number is above 15, already open or not above the parent's.
 pub const REFUSED_GROUP_NUMBER: u32 = 3;
-/// The ceiling or reservation is outside its range.
+/// The ceiling, reservation or priority, or a table's number of rows, is
+/// outside its range.
 pub const REFUSED_AMOUNT: u32 = 4;
 /// The ceiling or reservation exceeds what the group has free.
 pub const REFUSED_NO_ROOM: u32 = 5;
@@ -131,6 +134,11 @@ pub const REFUSED_CHECK: u32 = 18;
 pub const REFUSED_FORM: u32 = 19;
 /// In what mtrrun prints alone: no start is accepted since a refused block.
 pub const REFUSED_NOT_STARTED: u32 = 20;
+/// A row of the table is upside down, or has a priority outside 1 to 10 or a
+/// reservation outside 1 to 1000.
+pub const REFUSED_TABLE_ROW: u32 = 22;
+/// A priority stands in no row of the table or in several.
+pub const REFUSED_TABLE_COVER: u32 = 23;
 
 // Reasons of a report.
 
@@ -200,7 +208,9 @@ pub const fn answer_text(answer: u32) -> &'static str {
         REFUSED_GROUP_NUMBER => {
             "the group's number is above 15, already open or not above the parent's"
         }
-        REFUSED_AMOUNT => "the ceiling or reservation is outside its range",
+        REFUSED_AMOUNT => {
+            "the ceiling, reservation or priority, or a table's number of rows, is outside its range"
+        }
         REFUSED_NO_ROOM => "the ceiling or reservation exceeds what the group has free",
         REFUSED_GROUP_IN_USE => "the group has a thread or a child",
         REFUSED_NO_THREAD => "the thread's number is above 63 or not admitted",
@@ -219,6 +229,10 @@ pub const fn answer_text(answer: u32) -> &'static str {
         REFUSED_NOT_STARTED => {
             "in what mtrrun prints alone: no start is accepted since a refused block"
         }
+        REFUSED_TABLE_ROW => {
+            "a row of the table is upside down, or has a priority outside 1 to 10 or a reservation outside 1 to 1000"
+        }
+        REFUSED_TABLE_COVER => "a priority stands in no row of the table or in several",
         _ => "no listed answer",
     }
 }
@@ -361,6 +375,56 @@ layout! {
     Total = 8, 4;
     answer = 0, 4;
     thousandths = 4, 4;
+}
+
+/// A row of a table of priorities: those from first to last have its
+/// reservation.
+#[repr(C)]
+#[derive(Clone, Copy, Debug, PartialEq, Eq, Default)]
+pub struct PriorityRow {
+    pub first: u64,
+    pub last: u64,
+    pub reservation: u64,
+}
+
+layout! {
+    PriorityRow = 24, 8;
+    first = 0, 8;
+    last = 8, 8;
+    reservation = 16, 8;
+}
+
+/// A table of priorities: the first `count` rows. What stands past them is not
+/// looked at.
+#[repr(C)]
+#[derive(Clone, Copy, Debug, PartialEq, Eq, Default)]
+pub struct PriorityTable {
+    pub rows: [PriorityRow; 10],
+    pub count: u64,
+}
+
+layout! {
+    PriorityTable = 248, 8;
+    rows = 0, 240;
+    count = 240, 8;
+}
+
+/// The reservation of a priority under a table. answer: 0, or the refusal;
+/// place: the row or the priority of a refusal with 22 or 23, else 0. The
+/// reservation of a refusal is 0.
+#[repr(C)]
+#[derive(Clone, Copy, Debug, PartialEq, Eq, Default)]
+pub struct PriorityLine {
+    pub answer: u32,
+    pub place: u32,
+    pub reservation: u32,
+}
+
+layout! {
+    PriorityLine = 12, 4;
+    answer = 0, 4;
+    place = 4, 4;
+    reservation = 8, 4;
 }
 
 /// A thread's lag. answer: 0, or the refusal, with a lag of 0.
@@ -627,6 +691,33 @@ unsafe extern "C" {
     ///
     /// The state is unchanged.
     pub safe fn mtr_by_value_subtree(state: Scheduler, group: u64) -> Total;
+
+    /// The reservation of a priority under a customer's own table: that of the
+    /// one row in which the priority stands. In a table that can be used every
+    /// row is well formed and each priority from 1 to 10 stands in exactly one.
+    /// Rows past the count are not looked at.
+    ///
+    /// Refuses, the first that applies:
+    /// - 4 [`REFUSED_AMOUNT`]: the number of rows is outside 1 to 10
+    /// - 22 [`REFUSED_TABLE_ROW`]: a row is upside down, or has a priority
+    ///   outside 1 to 10 or a reservation outside 1 to 1000, and place is the
+    ///   first such row, from 0
+    /// - 23 [`REFUSED_TABLE_COVER`]: a priority stands in no row or in several,
+    ///   and place is the lowest such priority
+    /// - 4 [`REFUSED_AMOUNT`]: the priority that is asked for is outside 1 to
+    ///   10
+    ///
+    /// The table is unchanged.
+    pub safe fn mtr_by_value_priority_under(table: PriorityTable, priority: u64) -> PriorityLine;
+
+    /// The table that gives every priority what it has where no table is given:
+    /// a row for each, from the highest, 10 with 20, down to the lowest, 1 with
+    /// 11.
+    ///
+    /// Refuses nothing.
+    ///
+    /// It takes no state, so that any is unchanged.
+    pub safe fn mtr_standard_table() -> PriorityTable;
 
     /// A thread's lag: its reservation times the meter's growth since its
     /// anchor, less 1000 times its own ticks since; 0 while it is blocked. The

@@ -23,6 +23,10 @@ typedef struct mtr_run {
 /// The call whose reply has more to tell than its answer and the state.
 const RUNS: &str = "dispatch";
 
+/// The field that a refusal has to tell as well: a reply with it is handed back
+/// whole, since a refused call stores nothing.
+const REFUSED_TOO: &str = "place";
+
 /// What is unchanged, where C differs from the exported function: there the
 /// reply says what C leaves as it was.
 const LEAVES: [(&str, &str); 2] = [
@@ -50,7 +54,11 @@ pub fn print(interface: &Interface, f: &Function, name: &str) -> String {
     };
     let has = |s: &Struct, field: &str| s.fields.iter().any(|f| f.name == field);
     let stores = reply.is_some_and(|s| has(s, "state"));
-    let outs = outs(interface, name, reply, stores);
+    let whole = reply.filter(|s| has(s, REFUSED_TOO));
+    let outs = match whole {
+        Some(_) => Vec::new(),
+        None => outs(interface, name, reply, stores),
+    };
 
     let mut parameters = Vec::new();
     let mut arguments = Vec::new();
@@ -65,10 +73,14 @@ pub fn print(interface: &Interface, f: &Function, name: &str) -> String {
     parameters.extend(outs.iter().map(|out| out.declared.clone()));
 
     let call = format!("{}({})", f.name, arguments.join(", "));
-    let (result, lines) = match reply {
-        Some(of) => (ANSWER, stored(of, &call, stores, &outs)),
-        None if f.comment.refuses.is_empty() => ("bool", vec![format!("return {call} == 1;")]),
-        None => (ANSWER, counted(&call, &outs)),
+    let answer = ANSWER.to_string();
+    let (result, lines) = match (whole, reply) {
+        (Some(of), _) => (c_name(&of.name), vec![format!("return {call};")]),
+        (_, Some(of)) => (answer, stored(of, &call, stores, &outs)),
+        _ if f.comment.refuses.is_empty() => {
+            ("bool".to_string(), vec![format!("return {call} == 1;")])
+        }
+        _ => (answer, counted(&call, &outs)),
     };
     let head = folded(&format!(
         "MTR_MUST_USE static inline {result} mtr_{name}({})",
