@@ -1,7 +1,8 @@
 //! The move-to-rear list scheduler for Rust hosts.
 //!
 //! [`Scheduler`] is the scheduler as a value with methods, [`blocks`] its event
-//! journal. Errors are [`Refusal`]s, by name and by number. Nothing here
+//! journal, [`PriorityTable`] a customer's own table of priorities. Errors are
+//! [`Refusal`]s, by name and by number. Nothing here
 //! panics, allocates or needs the standard library, and the library behind it
 //! is proved: every call returns, and a refused one changes nothing.
 //!
@@ -36,6 +37,7 @@
 pub mod blocks;
 #[allow(unsafe_code)]
 pub mod numbers;
+mod priorities;
 #[allow(unsafe_code)]
 pub mod raw;
 mod refusal;
@@ -43,8 +45,9 @@ mod scheduler;
 mod values;
 
 pub use blocks::Event;
+pub use priorities::{reservation_of, PriorityRow, PriorityTable, TableError};
 pub use refusal::Refusal;
-pub use scheduler::{reservation_of, Scheduler};
+pub use scheduler::Scheduler;
 pub use values::{Dispatch, Entry, Reason, Settings, ThreadState};
 
 /// The version of the library that is linked: 10000 times the major, 100 times

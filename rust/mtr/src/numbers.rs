@@ -8,8 +8,8 @@
 use crate::raw;
 
 pub use crate::raw::{
-    Entry, Found, Group, LagLine, Mapped, Record, Records, Reply, Scheduler, Settings, ShareLine,
-    Thread, Total,
+    Entry, Found, Group, LagLine, Mapped, PriorityLine, PriorityRow, PriorityTable, Record,
+    Records, Reply, Scheduler, Settings, ShareLine, Thread, Total,
 };
 
 /// A fresh state with m, P and O. Refused, the state is all zeros.
@@ -79,6 +79,19 @@ pub fn priority(priority: u64) -> Mapped {
     raw::mtr_by_value_priority(priority)
 }
 
+/// Reservation of a priority under a customer's own table, or the refusal and
+/// its place.
+#[inline]
+pub fn priority_under(table: PriorityTable, priority: u64) -> PriorityLine {
+    raw::mtr_by_value_priority_under(table, priority)
+}
+
+/// The table that gives each priority what it has where none is given.
+#[inline]
+pub fn standard_table() -> PriorityTable {
+    raw::mtr_standard_table()
+}
+
 /// Reservations in a group and in the groups below it.
 #[inline]
 pub fn subtree(state: Scheduler, group: u64) -> Total {
@@ -146,6 +159,16 @@ impl Mapped {
         match self.answer {
             0 => Ok(self.reservation),
             refusal => Err(refusal),
+        }
+    }
+}
+
+impl PriorityLine {
+    /// The reservation, or the refusal and its place.
+    pub fn result(self) -> Result<u32, (u32, u32)> {
+        match self.answer {
+            0 => Ok(self.reservation),
+            refusal => Err((refusal, self.place)),
         }
     }
 }

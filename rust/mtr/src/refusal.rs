@@ -64,6 +64,8 @@ refusals! {
     Check = REFUSED_CHECK,
     Form = REFUSED_FORM,
     NotStarted = REFUSED_NOT_STARTED,
+    TableRow = REFUSED_TABLE_ROW,
+    TableCover = REFUSED_TABLE_COVER,
 }
 
 impl Refusal {

@@ -333,17 +333,3 @@ fn start(settings: Settings) -> raw::Reply {
         settings.overrun.into(),
     )
 }
-
-/// The reservation of a priority of 1 to 10: the highest, 10, has 20, each one
-/// below it one less; the normal one, 5, has 15; the lowest, 1, has 11. Refused
-/// with [`Amount`](Refusal::Amount).
-///
-/// ```
-/// assert_eq!(mtr::reservation_of(5), Ok(15));
-/// assert_eq!(mtr::reservation_of(11), Err(mtr::Refusal::Amount));
-/// ```
-pub fn reservation_of(priority: u8) -> Result<u16, Refusal> {
-    let mapped = numbers::priority(priority.into());
-    accepted(mapped.answer)?;
-    Ok(mapped.reservation as u16)
-}
