@@ -10,22 +10,8 @@ use borrow.Author.Tests.{le-leb, leb-true, leb-false}
 use Rattle.base.specs.Checks.{within}
 use Rattle.base.proofs.Bools.{by, and-l, and-r, both, is, holds, cases, clash}
 use Rattle.priority.specs.declared.table.PriorityRow.{PriorityRow}
-use Rattle.priority.specs.Table.{wellFormed, standsIn, wellFormedRows, reservationIn}
-
-pub record Formed (w : PriorityRow) : Type 0 where
-  pub lowest : 1 ≤ w .first
-  pub upright : w .first ≤ w .last
-  pub highest : w .last ≤ 10
-  pub least : 1 ≤ w .reservation
-  pub most : w .reservation ≤ 1000
-
--- the priority stands in the row
-abbrev pub In : ℕ → PriorityRow → Type 0
-In p w = (w .first ≤ p) × (p ≤ w .last)
-
--- what `within` tells
-abbrev pub Within : ℕ → ℕ → ℕ → Type 0
-Within low high n = (low ≤ n) × (n ≤ high)
+use Rattle.priority.specs.Table.{wellFormed, standsIn, timesIn, wellFormedRows, reservationIn}
+use Rattle.priority.specs.Usable.{Within, Formed, In}
 
 pub is-within : (low high n : ℕ) → T (within low high n) → Within low high n
 unfolding within
@@ -36,6 +22,16 @@ pub to-within : (low high n : ℕ) → Within low high n → T (within low high 
 unfolding within
 to-within low high n h =
     both (leb low n) (leb n high) (holds (leb low n) (le-leb low n (h .0))) (holds (leb n high) (le-leb n high (h .1)))
+
+-- a test on a number, either way
+pub upto : {C : Type 0} (m n : ℕ) → (m ≤ n → C) → (n < m → C) → C
+upto m n low high = cases (leb m n) (λ e. low (leb-true m n e)) (λ e. high (leb-false m n e))
+
+pub outside-low : (low high n : ℕ) → n < low → Within low high n → ⊥
+outside-low low high n l r = omega arith
+
+pub outside-high : (low high n : ℕ) → high < n → Within low high n → ⊥
+outside-high low high n l r = omega arith
 
 -- the four tests of a row, apart
 module _ (w : PriorityRow) where
@@ -90,6 +86,11 @@ module _ (w : PriorityRow) where
 
     pub not-in : standsIn p w ≡ false → In p w → ⊥
     not-in e h = clash (standsIn p w) (to-in h) e
+
+-- a row counts once at most
+pub once : (k p : ℕ) (w : PriorityRow) → k ≡ timesIn p w → k ≤ 1
+unfolding timesIn
+once k p w e = rw e (by (λ b. cond b 1 0 ≤ 1) (standsIn p w) (λ _. omega arith) (λ _. omega arith))
 
 -- what is found in well-formed rows fits
 pub reservation-most : (p : ℕ) (ws : List PriorityRow) → length ws ≤ wellFormedRows ws → reservationIn p ws ≤ 1000

@@ -1,5 +1,5 @@
 -- Passes over the rows of a table. A pass that has left i of the first n rows behind goes on with the others: `good`, `bad`, `counted`,
--- `passed-by`, `found` and `past` are its turns, and the three `none` what it ends with.
+-- `found` and `past` are its turns, and the three `none` what it ends with.
 use mathlib.Core.Path.{_≡_, refl}
 use mathlib.Core.List.{List, [], _∷_}
 use mathlib.Core.Bool.{true, false}
@@ -10,7 +10,7 @@ use lib.ListN.{length, getD, take, drop, length-take, drop-of-length-le}
 use lib.Seq.{drop-cons, getD-take}
 use Rattle.priority.specs.declared.table.PriorityRow.{PriorityRow}
 use borrow.Author.Tests.{eq-eqb, ne-eqb}
-use Rattle.priority.specs.Table.{wellFormed, standsIn, wellFormedRows, rowsWith, faultFrom, reservationIn}
+use Rattle.priority.specs.Table.{wellFormed, standsIn, timesIn, wellFormedRows, rowsWith, faultFrom, reservationIn}
 
 -- no rows are left
 left : (ws : List PriorityRow) (n i : ℕ) → n ≤ i → drop i (take n ws) ≡ []
@@ -34,13 +34,9 @@ module _ (ws : List PriorityRow) (d : PriorityRow) (n i : ℕ) (there : i < leng
   bad e = rw (next, e)
 
   module _ (p : ℕ) where
-    pub counted : standsIn p (getD ws i d) ≡ true → rowsWith p (drop i (take n ws)) ≡ suc (rowsWith p (drop (i + 1) (take n ws)))
+    pub counted : (k : ℕ) → k ≡ timesIn p (getD ws i d) → rowsWith p (drop i (take n ws)) ≡ k + rowsWith p (drop (i + 1) (take n ws))
     unfolding rowsWith
-    counted e = rw (next, e)
-
-    pub passed-by : standsIn p (getD ws i d) ≡ false → rowsWith p (drop i (take n ws)) ≡ rowsWith p (drop (i + 1) (take n ws))
-    unfolding rowsWith
-    passed-by e = rw (next, e)
+    counted k e = rw (next, e)
 
     pub found : standsIn p (getD ws i d) ≡ true → reservationIn p (drop i (take n ws)) ≡ getD ws i d .reservation
     unfolding reservationIn

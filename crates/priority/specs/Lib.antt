@@ -1,2 +1,4 @@
 pub mod Priority
 pub mod Table
+pub mod Usable
+pub mod Examples

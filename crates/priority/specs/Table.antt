@@ -1,5 +1,5 @@
 -- RULE 3.7: a customer's own table of priorities.
-use Prim.Native.Nat.{ℕ, zero, suc}
+use Prim.Native.Nat.{ℕ, zero, suc, _+_}
 use mathlib.Core.List.{List, [], _∷_}
 use mathlib.Core.Bool.{Bool, not, cond, _&&_}
 use lib.Dec.{leb, ltb, eqb}
@@ -24,9 +24,12 @@ wellFormedRows [] = 0
 wellFormedRows (w ∷ ws) = cond (wellFormed w) (suc (wellFormedRows ws)) 0
 
 -- in how many rows a priority stands
+unfoldable pub timesIn : ℕ → PriorityRow → ℕ
+timesIn p w = cond (standsIn p w) 1 0
+
 unfoldable pub rowsWith : ℕ → List PriorityRow → ℕ
 rowsWith p [] = 0
-rowsWith p (w ∷ ws) = cond (standsIn p w) (suc (rowsWith p ws)) (rowsWith p ws)
+rowsWith p (w ∷ ws) = timesIn p w + rowsWith p ws
 
 -- the first of n priorities, from p up, that does not stand in exactly one row; the next one after them where each does
 unfoldable pub faultFrom : ℕ → ℕ → List PriorityRow → ℕ

@@ -2,7 +2,7 @@
 ghost use mathlib.Core.Path.{_≡_};
 ghost use Prim.Native.Nat.{_≤_};
 ghost use lib.ListN.{take};
-ghost use Rattle.priority.specs.Table.{wellFormed, standsIn, wellFormedRows, rowsWith, lowestFault, reservationIn, lookup, standardTable};
+ghost use Rattle.priority.specs.Table.{wellFormed, standsIn, timesIn, wellFormedRows, rowsWith, lowestFault, reservationIn, lookup, standardTable};
 use crate::HIGHEST;
 use crate::LOWEST;
 use crate::OUTSIDE;
@@ -61,6 +61,13 @@ fn stands_in(row: PriorityRow, priority: u64) -> bool
     (row.first <= priority) & (priority <= row.last)
 }
 
+// 1 where a priority stands in a row, else 0.
+fn times_in(row: PriorityRow, priority: u64) -> usize
+    ensures { λ r. ⌜ r ≡ timesIn priority row ⌝ }
+{
+    if stands_in(row, priority) { 1 } else { 0 }
+}
+
 // How many of the first n rows stand before the first that is not well formed: all of them where each is.
 fn well_formed_rows(rows: [PriorityRow; 10], n: usize) -> usize
     requires { ⌜ n ≤ 10 ⌝ }
@@ -84,12 +91,8 @@ fn rows_with(rows: [PriorityRow; 10], n: usize, priority: u64) -> usize
     let mut found: usize = 0;
     let mut i: usize = 0;
     while i < n {
-        let there = stands_in(rows[i], priority);
+        found += times_in(rows[i], priority);
         i += 1;
-        if there {
-            found += 1;
-            continue;
-        }
     }
     found
 }

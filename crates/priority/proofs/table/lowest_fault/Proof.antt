@@ -21,7 +21,7 @@ returns c =
     let s = c .before .before .before .before in
     let at = c .before .before .before .loop in
     sym (at .inv .1 ∙ fault (take (s .args .n) (s .args .rows)) (at .priority) (omega arith)
-    (λ e. c .if1 .taken (c .before .rows-with .ensures ∙ e)))
+    (λ e. omega (arith, c .before .rows-with .ensures, e, c .if1 .taken)))
 
 loop-again : tie.Need-loop-again Inv-loop μ-loop
 loop-again c =
@@ -29,7 +29,7 @@ loop-again c =
     let at = c .before .before .before .loop in (
       omega arith,
       at .inv .1 ∙ no-fault (take (s .args .n) (s .args .rows)) (at .priority) (omega arith)
-          (sym (c .before .rows-with .ensures) ∙ c .if1 .left),
+          (omega (arith, c .before .rows-with .ensures, c .if1 .left)),
     )
 
 returns-2 : tie.Need-returns-2 Inv-loop μ-loop

@@ -1,0 +1,55 @@
+-- The standard table can be used and gives for every argument what a priority has where no table is given (RULE 3.6): the ten lines are
+-- computed, all at once.
+use mathlib.Core.Path.{_≡_, refl, sym, ap, _∙_}
+use mathlib.Core.Bool.{Bool, true, false, cond}
+use Prim.Native.Nat.{ℕ, zero, suc, _+_, _-_, _≤_, _<_}
+use native.Mathlib.Omega.{arith}
+use lib.Dec.{T, leb, eqb}
+use borrow.Author.Tests.{leb-true, leb-false, eqb-true}
+use Rattle.base.specs.Checks.{within}
+use Rattle.base.specs.Lists.{everyBelow}
+use Rattle.base.proofs.Bools.{cases, is, holds}
+use Rattle.base.proofs.Sums.{everyBelow-at}
+use Rattle.priority.specs.declared.table.Lookup.the-variants.{Reservation, Refused}
+use Rattle.priority.specs.Priority.{mappingOf}
+use Rattle.priority.specs.Table.{wellFormed, standsIn, wellFormedRows, timesIn, rowsWith, faultFrom, lowestFault, reservationIn, rowsOf, lookup}
+use Rattle.priority.specs.Table.{standardTable}
+use Rattle.priority.specs.Usable.{Within, Usable, untabled}
+use Rattle.priority.proofs.Lookup.{inside, below, above, given}
+use Rattle.priority.proofs.Formed.{upto, outside-low, outside-high}
+use Rattle.priority.proofs.Usable.{asked-last, reservation-usable}
+
+-- every row is well formed, every priority is in one row
+rows-ten : wellFormedRows (rowsOf standardTable) ≡ 10
+unfolding wellFormedRows wellFormed within
+rows-ten = refl
+
+no-fault : lowestFault (rowsOf standardTable) ≡ 11
+unfolding faultFrom rowsWith timesIn standsIn within
+no-fault = refl
+
+-- the ten lines
+lines : T (everyBelow (λ k. eqb (reservationIn (suc k) (rowsOf standardTable)) (suc k + 10)) 10)
+unfolding everyBelow reservationIn standsIn within
+lines = tt
+
+line : (p : ℕ) → 1 ≤ p → p ≤ 10 → lookup standardTable p ≡ Reservation (p + 10)
+line zero l h = absurd (omega arith)
+line (suc k) l h =
+    let r = rows-ten in
+    let f = no-fault in
+    given standardTable (suc k) (omega arith) (omega arith) (omega arith) (omega arith) l h ∙ ap (λ (n : ℕ). Reservation n) (eqb-true
+    (reservationIn (suc k) (rowsOf standardTable)) (suc k + 10)
+    (is (eqb (reservationIn (suc k) (rowsOf standardTable)) (suc k + 10)) (everyBelow-at (λ k.
+    eqb (reservationIn (suc k) (rowsOf standardTable)) (suc k + 10)) 10 lines k (omega arith))))
+
+pub standard-usable : Usable standardTable
+standard-usable = reservation-usable standardTable 1 11 (line 1 (omega arith) (omega arith)) .0
+
+pub standard-same : (p : ℕ) → lookup standardTable p ≡ untabled (mappingOf p)
+unfolding mappingOf untabled
+standard-same p =
+    upto 1 p (λ l. upto p 10
+    (λ h. line p l h ∙ sym (rw (inside 1 10 p l h)))
+    (λ h. asked-last standardTable p standard-usable (outside-high 1 10 p h) ∙ sym (rw (above 1 10 p l h))))
+    (λ l. asked-last standardTable p standard-usable (outside-low 1 10 p l) ∙ sym (rw (below 1 10 p l)))
