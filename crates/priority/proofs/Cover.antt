@@ -10,7 +10,7 @@ use lib.ListN.{length, getD}
 use borrow.Author.Tests.{eqb-true, eqb-false}
 use Rattle.base.proofs.Bools.{by, cases}
 use Rattle.priority.specs.declared.table.PriorityRow.{PriorityRow}
-use Rattle.priority.specs.Table.{wellFormed, standsIn, wellFormedRows, timesIn, rowsWith, faultFrom, reservationIn}
+use Rattle.priority.specs.Table.{wellFormed, standsIn, wellFormedRows, rowsWith, faultFrom, reservationIn}
 use Rattle.priority.specs.Usable.{noRow, Formed, In}
 use Rattle.priority.proofs.Formed.{is-formed, not-formed, is-in, not-in}
 
@@ -47,7 +47,7 @@ abbrev Outside : ℕ → List PriorityRow → Type 0
 Outside p ws = (i : ℕ) → i < length ws → In p (getD ws i noRow) → ⊥
 
 pub in-none : (p : ℕ) (ws : List PriorityRow) → rowsWith p ws ≡ 0 → Outside p ws
-unfolding rowsWith timesIn
+unfolding rowsWith
 in-none p [] n i h = absurd (omega arith)
 in-none p (w ∷ ws) n zero h =
     by (λ b. cond b 1 0 + rowsWith p ws ≡ 0 → In p w → ⊥) (standsIn p w)
@@ -82,7 +82,7 @@ later-one p w ws f out o =
     alone-later (suc j) h i = let e = o .alone j (omega arith) i in omega arith
 
 pub in-one : (p : ℕ) (ws : List PriorityRow) → rowsWith p ws ≡ 1 → One p ws (reservationIn p ws)
-unfolding rowsWith timesIn reservationIn
+unfolding rowsWith reservationIn
 in-one p [] n = absurd (omega arith)
 in-one p (w ∷ ws) n =
     by (λ b. cond b 1 0 + rowsWith p ws ≡ 1 → One p (w ∷ ws) (cond b (w .reservation) (reservationIn p ws))) (standsIn p w)
@@ -105,7 +105,7 @@ record Some (p : ℕ) (ws : List PriorityRow) : Type 0 where
   inside : In p (getD ws row noRow)
 
 in-some : (p : ℕ) (ws : List PriorityRow) → 1 ≤ rowsWith p ws → Some p ws
-unfolding rowsWith timesIn
+unfolding rowsWith
 in-some p [] n = absurd (omega arith)
 in-some p (w ∷ ws) n =
     by (λ b. 1 ≤ cond b 1 0 + rowsWith p ws → Some p (w ∷ ws)) (standsIn p w)
@@ -114,7 +114,7 @@ in-some p (w ∷ ws) n =
     n
 
 pub in-several : (p : ℕ) (ws : List PriorityRow) → 2 ≤ rowsWith p ws → Several p ws
-unfolding rowsWith timesIn
+unfolding rowsWith
 in-several p [] n = absurd (omega arith)
 in-several p (w ∷ ws) n =
     by (λ b. 2 ≤ cond b 1 0 + rowsWith p ws → Several p (w ∷ ws)) (standsIn p w)

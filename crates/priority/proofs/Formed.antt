@@ -1,4 +1,4 @@
--- A row's tests as statements: well formed, and the priorities that stand in it. A well-formed row's reservation is at most 1000.
+-- A row's tests as statements: well formed, and the priorities that stand in it.
 use mathlib.Core.Path.{_≡_, refl, sym}
 use mathlib.Core.List.{List, [], _∷_}
 use mathlib.Core.Bool.{Bool, true, false, cond, _&&_}
@@ -10,7 +10,7 @@ use borrow.Author.Tests.{le-leb, leb-true, leb-false}
 use Rattle.base.specs.Checks.{within}
 use Rattle.base.proofs.Bools.{by, and-l, and-r, both, is, holds, cases, clash}
 use Rattle.priority.specs.declared.table.PriorityRow.{PriorityRow}
-use Rattle.priority.specs.Table.{wellFormed, standsIn, timesIn, wellFormedRows, reservationIn}
+use Rattle.priority.specs.Table.{wellFormed, standsIn, wellFormedRows, reservationIn}
 use Rattle.priority.specs.Usable.{Within, Formed, In}
 
 pub is-within : (low high n : ℕ) → T (within low high n) → Within low high n
@@ -86,20 +86,3 @@ module _ (w : PriorityRow) where
 
     pub not-in : standsIn p w ≡ false → In p w → ⊥
     not-in e h = clash (standsIn p w) (to-in h) e
-
--- a row counts once at most
-pub once : (k p : ℕ) (w : PriorityRow) → k ≡ timesIn p w → k ≤ 1
-unfolding timesIn
-once k p w e = rw e (by (λ b. cond b 1 0 ≤ 1) (standsIn p w) (λ _. omega arith) (λ _. omega arith))
-
--- what is found in well-formed rows fits
-pub reservation-most : (p : ℕ) (ws : List PriorityRow) → length ws ≤ wellFormedRows ws → reservationIn p ws ≤ 1000
-unfolding wellFormedRows reservationIn
-reservation-most p [] h = omega arith
-reservation-most p (w ∷ ws) h =
-    by (λ x. suc (length ws) ≤ cond x (suc (wellFormedRows ws)) 0 → cond (standsIn p w) (w .reservation) (reservationIn p ws) ≤ 1000)
-    (wellFormed w)
-    (λ e k. by (λ x. cond x (w .reservation) (reservationIn p ws) ≤ 1000) (standsIn p w)
-    (λ _. is-formed w e .most) (λ _. reservation-most p ws (omega arith)))
-    (λ e k. absurd (omega arith))
-    h

@@ -1,8 +1,8 @@
--- Passes over the rows of a table. A pass that has left i of the first n rows behind goes on with the others: `good`, `bad`, `counted`,
--- `found` and `past` are its turns, and the three `none` what it ends with.
-use mathlib.Core.Path.{_≡_, refl}
+-- Passes over the rows of a table. A pass that has left i of the first n rows behind goes on with the others: `good`, `bad`, `joins`
+-- and `keeps` are its turns, `none-good` and `none-held` what it ends with.
+use mathlib.Core.Path.{_≡_, refl, sym, ap, _∙_}
 use mathlib.Core.List.{List, [], _∷_}
-use mathlib.Core.Bool.{true, false}
+use mathlib.Core.Bool.{Bool, true, false, cond}
 use Prim.Native.Nat.{ℕ, zero, suc, _+_, _-_, _≤_, _<_}
 use native.Mathlib.Numerals.{add-one}
 use native.Mathlib.Omega.{arith}
@@ -10,7 +10,8 @@ use lib.ListN.{length, getD, take, drop, length-take, drop-of-length-le}
 use lib.Seq.{drop-cons, getD-take}
 use Rattle.priority.specs.declared.table.PriorityRow.{PriorityRow}
 use borrow.Author.Tests.{eq-eqb, ne-eqb}
-use Rattle.priority.specs.Table.{wellFormed, standsIn, timesIn, wellFormedRows, rowsWith, faultFrom, reservationIn}
+use Rattle.priority.specs.Table.{wellFormed, standsIn, wellFormedRows, rowsWith, faultFrom}
+use Rattle.priority.specs.Inner.{joined, heldFrom}
 
 -- no rows are left
 left : (ws : List PriorityRow) (n i : ℕ) → n ≤ i → drop i (take n ws) ≡ []
@@ -33,31 +34,30 @@ module _ (ws : List PriorityRow) (d : PriorityRow) (n i : ℕ) (there : i < leng
   unfolding wellFormedRows
   bad e = rw (next, e)
 
-  module _ (p : ℕ) where
-    pub counted : (k : ℕ) → k ≡ timesIn p (getD ws i d) → rowsWith p (drop i (take n ws)) ≡ k + rowsWith p (drop (i + 1) (take n ws))
-    unfolding rowsWith
-    counted k e = rw (next, e)
+  module _ (held p : ℕ) where
+    -- what is kept after the next row
+    turn : (b : Bool) → standsIn p (getD ws i d) ≡ b → heldFrom held p (drop i (take n ws))
+        ≡ heldFrom (cond b (joined held (getD ws i d .reservation)) held) p (drop (i + 1) (take n ws))
+    unfolding heldFrom
+    turn b e =
+        ap (heldFrom held p) next
+        ∙ ap (λ (b : Bool). heldFrom (cond b (joined held (getD ws i d .reservation)) held) p (drop (i + 1) (take n ws))) e
 
-    pub found : standsIn p (getD ws i d) ≡ true → reservationIn p (drop i (take n ws)) ≡ getD ws i d .reservation
-    unfolding reservationIn
-    found e = rw (next, e)
+    pub joins : (k : ℕ) → standsIn p (getD ws i d) ≡ true → k ≡ joined held (getD ws i d .reservation)
+        → heldFrom held p (drop i (take n ws)) ≡ heldFrom k p (drop (i + 1) (take n ws))
+    joins k e h = turn true e ∙ ap (λ (x : ℕ). heldFrom x p (drop (i + 1) (take n ws))) (sym h)
 
-    pub past : standsIn p (getD ws i d) ≡ false → reservationIn p (drop i (take n ws)) ≡ reservationIn p (drop (i + 1) (take n ws))
-    unfolding reservationIn
-    past e = rw (next, e)
+    pub keeps : standsIn p (getD ws i d) ≡ false → heldFrom held p (drop i (take n ws)) ≡ heldFrom held p (drop (i + 1) (take n ws))
+    keeps e = turn false e
 
 module _ (ws : List PriorityRow) (n i : ℕ) (over : n ≤ i) where
   pub none-good : wellFormedRows (drop i (take n ws)) ≡ 0
   unfolding wellFormedRows
   none-good = rw (left ws n i over)
 
-  pub none-counted : (p : ℕ) → rowsWith p (drop i (take n ws)) ≡ 0
-  unfolding rowsWith
-  none-counted p = rw (left ws n i over)
-
-  pub none-found : (p : ℕ) → reservationIn p (drop i (take n ws)) ≡ 0
-  unfolding reservationIn
-  none-found p = rw (left ws n i over)
+  pub none-held : (held p : ℕ) → heldFrom held p (drop i (take n ws)) ≡ held
+  unfolding heldFrom
+  none-held held p = rw (left ws n i over)
 
 -- The pass over the priorities, at one of them.
 module _ (ws : List PriorityRow) (p : ℕ) (least : p ≤ 10) where

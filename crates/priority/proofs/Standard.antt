@@ -12,7 +12,7 @@ use Rattle.base.proofs.Bools.{cases, is, holds}
 use Rattle.base.proofs.Sums.{everyBelow-at}
 use Rattle.priority.specs.declared.table.Lookup.the-variants.{Reservation, Refused}
 use Rattle.priority.specs.Priority.{mappingOf}
-use Rattle.priority.specs.Table.{wellFormed, standsIn, wellFormedRows, timesIn, rowsWith, faultFrom, lowestFault, reservationIn, rowsOf, lookup}
+use Rattle.priority.specs.Table.{wellFormed, standsIn, wellFormedRows, rowsWith, faultFrom, lowestFault, reservationIn, rowsOf, lookup}
 use Rattle.priority.specs.Table.{standardTable}
 use Rattle.priority.specs.Usable.{Within, Usable, untabled}
 use Rattle.priority.proofs.Lookup.{inside, below, above, given}
@@ -25,7 +25,7 @@ unfolding wellFormedRows wellFormed within
 rows-ten = refl
 
 no-fault : lowestFault (rowsOf standardTable) ≡ 11
-unfolding faultFrom rowsWith timesIn standsIn within
+unfolding faultFrom rowsWith standsIn within
 no-fault = refl
 
 -- the ten lines

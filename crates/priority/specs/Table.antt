@@ -24,12 +24,9 @@ wellFormedRows [] = 0
 wellFormedRows (w ∷ ws) = cond (wellFormed w) (suc (wellFormedRows ws)) 0
 
 -- in how many rows a priority stands
-unfoldable pub timesIn : ℕ → PriorityRow → ℕ
-timesIn p w = cond (standsIn p w) 1 0
-
 unfoldable pub rowsWith : ℕ → List PriorityRow → ℕ
 rowsWith p [] = 0
-rowsWith p (w ∷ ws) = timesIn p w + rowsWith p ws
+rowsWith p (w ∷ ws) = cond (standsIn p w) 1 0 + rowsWith p ws
 
 -- the first of n priorities, from p up, that does not stand in exactly one row; the next one after them where each does
 unfoldable pub faultFrom : ℕ → ℕ → List PriorityRow → ℕ

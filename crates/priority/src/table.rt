@@ -2,7 +2,9 @@
 ghost use mathlib.Core.Path.{_≡_};
 ghost use Prim.Native.Nat.{_≤_};
 ghost use lib.ListN.{take};
-ghost use Rattle.priority.specs.Table.{wellFormed, standsIn, timesIn, wellFormedRows, rowsWith, lowestFault, reservationIn, lookup, standardTable};
+ghost use Rattle.priority.specs.Table.{wellFormed, standsIn, wellFormedRows, lowestFault, lookup, standardTable};
+ghost use Rattle.priority.specs.Inner.{joined, heldFrom};
+ghost use Rattle.priority.specs.declared.table.Lookup.the-variants.{Refused};
 use crate::HIGHEST;
 use crate::LOWEST;
 use crate::OUTSIDE;
@@ -35,6 +37,9 @@ const LEAST: u64 = 1;
 
 const MOST: u64 = 1000;
 
+// What stands for the reservation of a priority in several rows: none that a row can have.
+const SEVERAL: u64 = 1001;
+
 // A row of the table is upside down, or has a priority outside 1 to 10 or a reservation outside 1 to 1000.
 pub const ROW: u32 = 22;
 
@@ -61,13 +66,6 @@ fn stands_in(row: PriorityRow, priority: u64) -> bool
     (row.first <= priority) & (priority <= row.last)
 }
 
-// 1 where a priority stands in a row, else 0.
-fn times_in(row: PriorityRow, priority: u64) -> usize
-    ensures { λ r. ⌜ r ≡ timesIn priority row ⌝ }
-{
-    if stands_in(row, priority) { 1 } else { 0 }
-}
-
 // How many of the first n rows stand before the first that is not well formed: all of them where each is.
 fn well_formed_rows(rows: [PriorityRow; 10], n: usize) -> usize
     requires { ⌜ n ≤ 10 ⌝ }
@@ -83,28 +81,43 @@ fn well_formed_rows(rows: [PriorityRow; 10], n: usize) -> usize
     i
 }
 
-// In how many of the first n rows a priority stands.
-fn rows_with(rows: [PriorityRow; 10], n: usize, priority: u64) -> usize
-    requires { ⌜ n ≤ 10 ⌝ }
-    ensures { λ r. ⌜ r ≡ rowsWith priority (take n rows) ⌝ }
+// What a priority has after one more row in which it stands: that row's reservation where it stood in none before.
+fn joined(before: u64, reservation: u64) -> u64
+    ensures { λ r. ⌜ r ≡ joined before reservation ⌝ }
 {
-    let mut found: usize = 0;
-    let mut i: usize = 0;
-    while i < n {
-        found += times_in(rows[i], priority);
-        i += 1;
-    }
-    found
+    if before == 0 { reservation } else { SEVERAL }
 }
 
-// The lowest priority that does not stand in exactly one of the first n rows; 11 where each does.
-fn lowest_fault(rows: [PriorityRow; 10], n: usize) -> u64
+// What a priority has in the first n rows: 0 where it stands in none, SEVERAL in several, else the reservation of its one row.
+fn held_in(rows: [PriorityRow; 10], n: usize, priority: u64) -> u64
     requires { ⌜ n ≤ 10 ⌝ }
+    ensures { λ r. ⌜ r ≡ heldFrom 0 priority (take n rows) ⌝ }
+{
+    let mut held: u64 = 0;
+    let mut i: usize = 0;
+    while i < n {
+        let row = rows[i];
+        i += 1;
+        if stands_in(row, priority) {
+            held = joined(held, row.reservation);
+            continue;
+        }
+    }
+    held
+}
+
+// The lowest priority that does not stand in exactly one of the first n rows, which are well formed; 11 where each does.
+fn lowest_fault(rows: [PriorityRow; 10], n: usize) -> u64
+    requires { ⌜ (n ≤ 10) × (n ≤ wellFormedRows (take n rows)) ⌝ }
     ensures { λ r. ⌜ r ≡ lowestFault (take n rows) ⌝ }
 {
     let mut priority = LOWEST;
     while priority <= HIGHEST {
-        if rows_with(rows, n, priority) != 1 {
+        let held = held_in(rows, n, priority);
+        if held == 0 {
+            return priority;
+        }
+        if held == SEVERAL {
             return priority;
         }
         priority += 1;
@@ -112,20 +125,14 @@ fn lowest_fault(rows: [PriorityRow; 10], n: usize) -> u64
     priority
 }
 
-// The reservation of the first of the first n rows that a priority stands in; 0 where it stands in none.
-fn reservation_in(rows: [PriorityRow; 10], n: usize, priority: u64) -> u64
-    requires { ⌜ n ≤ 10 ⌝ }
-    ensures { λ r. ⌜ r ≡ reservationIn priority (take n rows) ⌝ }
+// A refusal and its place.
+fn refused(number: u32, place: u32) -> Lookup
+    ensures { λ r. ⌜ r ≡ Refused number place ⌝ }
 {
-    let mut i: usize = 0;
-    while i < n {
-        let row = rows[i];
-        if stands_in(row, priority) {
-            return row.reservation;
-        }
-        i += 1;
+    Lookup::Refused {
+        number: number,
+        place: place,
     }
-    0
 }
 
 // The reservation of a priority under a table (RULE 3.7).
@@ -134,46 +141,31 @@ pub fn reservation_under(table: PriorityTable, priority: u64) -> Lookup
 {
     let count = table.count;
     if count < 1 {
-        return Lookup::Refused {
-            number: OUTSIDE,
-            place: 0,
-        };
+        return refused(OUTSIDE, 0);
     }
     if ROWS < count {
-        return Lookup::Refused {
-            number: OUTSIDE,
-            place: 0,
-        };
+        return refused(OUTSIDE, 0);
     }
     let n = count as usize;
     let rows = table.rows;
     let well = well_formed_rows(rows, n);
     if well < n {
-        return Lookup::Refused {
-            number: ROW,
-            place: well as u32,
-        };
+        let row = well as u32;
+        return refused(ROW, row);
     }
     let fault = lowest_fault(rows, n);
     if fault <= HIGHEST {
-        return Lookup::Refused {
-            number: COVER,
-            place: fault as u32,
-        };
+        let lowest = fault as u32;
+        return refused(COVER, lowest);
     }
     if priority < LOWEST {
-        return Lookup::Refused {
-            number: OUTSIDE,
-            place: 0,
-        };
+        return refused(OUTSIDE, 0);
     }
     if HIGHEST < priority {
-        return Lookup::Refused {
-            number: OUTSIDE,
-            place: 0,
-        };
+        return refused(OUTSIDE, 0);
     }
-    Lookup::Reservation(reservation_in(rows, n, priority) as u32)
+    let reservation = held_in(rows, n, priority) as u32;
+    Lookup::Reservation(reservation)
 }
 
 // A row of one priority.
