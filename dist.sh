@@ -1,6 +1,7 @@
 #!/bin/sh
 # Fills a folder that a firmware project can vendor: the static library and its header, with files for pkg-config and CMake; the Rust crate;
-# mtrrun and mtrwhy, with their manual pages, and journal for the bench; the example hosts; what was proved; VERSION, KIT and SHA256SUMS.
+# mtrrun and mtrwhy, with their manual pages, and journal for the bench; the example hosts and a customer's table of priorities; what was
+# proved; VERSION, KIT and SHA256SUMS.
 #   ./dist.sh [--no-build] [FOLDER]     FOLDER is dist/ if none is given; an earlier one is replaced
 # --no-build takes what stands in target/ as it is instead of proving and building it. The revision is git's, or $REVISION if it is set.
 # After a failure FOLDER is as it was.
@@ -92,6 +93,7 @@ package='/^\[/ { tests = /dev-dependencies/ || /^\[\[(test|example|bench)\]\]/ }
         awk "$package" rust/mtr/Cargo.toml >"$new/rust/Cargo.toml" &&
         cp -R examples/host/c "$new/examples/host/" &&
         cp -R examples/host/rust/src "$new/examples/host/rust/" &&
+        cp -R examples/priorities "$new/examples/" &&
         awk "$package" examples/host/rust/Cargo.toml | sed 's,"../../../rust/mtr","../../../rust",' >"$new/examples/host/rust/Cargo.toml" &&
         echo "$version" >"$new/VERSION" &&
         echo "$kit" >"$new/KIT"
@@ -164,8 +166,8 @@ Commit $revision, $kit.
     rust/            the crate \`mtr\`: the same with Rust types (no_std), and the declarations in its module raw
     bin/mtrrun       replays a journal (share/man/man1/mtrrun.1)
     bin/mtrwhy       tells from a journal why a thread had the processor (share/man/man1/mtrwhy.1)
-    bin/journal      journals as text, figures and pictures
-    examples/host/   a controller's main loop, in C and in Rust
+    bin/journal      journals as text, figures and pictures; a customer's table of priorities checked
+    examples/        host/: a controller's main loop, in C and in Rust; priorities/: a customer's table of priorities
     RULE.md          the rule whole, in numbered sections
     PROVED.md        what was proved of it, by which theorem, and what is assumed
 
@@ -207,6 +209,10 @@ The example host, and its journal replayed:
 Why the thread of its dispatch at record N had the processor:
 
     bin/mtrwhy /tmp/journal.blocks N
+
+A customer's table of priorities: what each has under it, beside the standard, or what is wrong with it and in which line:
+
+    bin/journal priorities examples/priorities/site.txt
 
 The files are whole if this says OK of each:
 

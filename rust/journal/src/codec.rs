@@ -1,5 +1,5 @@
 //! Event blocks to records and back, by the proved library. With
-//! [`crate::engine`] the only module that names it.
+//! [`crate::engine`] and [`crate::priorities`] the only module that names it.
 
 use mtr::{numbers, raw};
 

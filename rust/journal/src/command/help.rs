@@ -1,6 +1,6 @@
 //! What `--help` and `--version` print.
 
-/// Of every command but the first: the part of a journal.
+/// Of run, draw and stats: the part of a journal.
 const FIRST: &str = "  --first-block N     the first block is number N: the blocks before it are
                       missing. What was begun in them is not known, so every
                       record answers 20 and is not run up to an accepted start
@@ -40,21 +40,24 @@ Usage: journal COMMAND [OPTION].. [FILE]
 Journals of the scheduler, rows of event blocks of 512 bytes, as text, as a
 picture and in figures. A journal holds the calls that a host made and not
 their answers. Answers, shares and lags are computed anew, by the proved library
-of the scheduler and by nothing else.
+of the scheduler and by nothing else. 'priorities' is apart from journals: it
+checks a customer's own table of priorities, by the same library.
 
 Commands:
-  encode   text to blocks
-  decode   blocks to text
-  run      blocks to text, with the answer to each record beside it
-  draw     blocks to a picture (SVG)
-  stats    blocks to figures: shares, runs, waits, lags, refusals
+  encode      text to blocks
+  decode      blocks to text
+  run         blocks to text, with the answer to each record beside it
+  draw        blocks to a picture (SVG)
+  stats       blocks to figures: shares, runs, waits, lags, refusals
+  priorities  a table of priorities to its ten mappings beside the standard ones
 
 FILE is read, or standard input where there is none or it is '-'. The result
 goes to standard output.
 
 Options of every command:
   -o, --output FILE   write to FILE, the whole result or nothing
-  --first-block N     a part of a journal that begins with block N
+  --first-block N     a part of a journal that begins with block N (not of
+                      priorities)
   -h, --help          print the help of the command and stop
   -V, --version       print the version and stop
 
@@ -192,5 +195,36 @@ Options:
                       a microsecond, lags and bounds in thousandths of ticks
   --csv --refusals    comma-separated values, a kind of refusal a line
 {VIEW}{NAMES}{FIRST}{OUTPUT}"
+    )
+}
+
+pub fn priorities() -> String {
+    format!(
+        "\
+Usage: journal priorities [OPTION].. [FILE]
+
+Checks a customer's own table of priorities, and prints the ten priorities from
+the highest down: the reservation of each under the table, in thousandths of the
+core, the standard one, which it has where no table is given, and the line of
+its row. The table is a text with a row a line, three decimal numbers with blanks
+or tabs between them:
+
+  # first last reservation
+  1 7 10                 # priorities 1 to 7 have 10 thousandths each
+  8 10 40                # priorities 8 to 10 have 40 each
+
+A table has 1 to 10 rows, in any order. In a row first is not above last, both
+are from 1 to 10, and the reservation is from 1 to 1000. Each priority from 1 to
+10 stands in exactly one row. '#' begins a comment; empty lines count for nothing.
+
+Options:
+{OUTPUT}
+Whether a table can be used is decided by the proved library and by nothing else.
+If it can't be, standard error says in which line and what is wrong, with the
+number of the refusal: 4, there are not 1 to 10 rows; 22, the first row that is
+wrong; 23, the lowest priority that stands in no row or in several. Lines that
+are not three numbers are named before that, up to 20 of them. Nothing is written
+then, and the exit status is 1.
+"
     )
 }

@@ -18,6 +18,7 @@ pub enum Command {
     Run,
     Draw,
     Stats,
+    Priorities,
 }
 
 impl Command {
@@ -28,6 +29,7 @@ impl Command {
             "run" => Some(Command::Run),
             "draw" => Some(Command::Draw),
             "stats" => Some(Command::Stats),
+            "priorities" => Some(Command::Priorities),
             _ => None,
         }
     }
@@ -39,7 +41,13 @@ impl Command {
             Command::Run => help::run(),
             Command::Draw => help::draw(),
             Command::Stats => help::stats(),
+            Command::Priorities => help::priorities(),
         }
+    }
+
+    /// Makes a journal or reads one.
+    fn journals(self) -> bool {
+        self != Command::Priorities
     }
 
     /// Looks at threads and times.
@@ -210,7 +218,7 @@ impl Job {
         let view = &mut self.options.view;
         match (option.name.as_str(), self.command) {
             ("-o" | "--output", _) => self.output = Some(PathBuf::from(option.value()?)),
-            ("--first-block", _) => self.first = option.number(u32::MAX.into())?,
+            ("--first-block", c) if c.journals() => self.first = option.number(u32::MAX.into())?,
             ("--pack", Command::Encode) => self.pack = true,
             ("--csv", Command::Stats) => self.csv = true,
             ("--refusals", Command::Stats) => self.refusals = true,

@@ -8,6 +8,7 @@ use journal::draw::draw;
 use journal::engine::Proved;
 use journal::names::Names;
 use journal::playback::Journal;
+use journal::priorities::{Table, Wrong};
 use journal::progress::Progress;
 use journal::stats::stats;
 use journal::text::{self, Notes, Problem, Tally, PROBLEMS};
@@ -39,6 +40,7 @@ pub fn work(mut job: Job) -> Result<(), Stop> {
     };
     let tally = match job.command {
         Command::Encode => return encode(&job, &name, &bytes, &mut progress),
+        Command::Priorities => return write_mappings(&job, &name, &bytes, &mut progress),
         Command::Decode | Command::Run => write_text(&job, &name, journal, &mut progress)?,
         Command::Draw => write_picture(job, &name, journal, &mut progress)?,
         Command::Stats => write_figures(&job, &name, journal, &mut progress)?,
@@ -64,6 +66,21 @@ fn encode(job: &Job, name: &str, bytes: &[u8], progress: &mut Progress) -> Resul
         .map_err(|wrong| problems(name, &wrong))?;
     progress.clear();
     write_all(job.output.as_deref(), &blocks)
+}
+
+fn write_mappings(
+    job: &Job,
+    name: &str,
+    bytes: &[u8],
+    progress: &mut Progress,
+) -> Result<(), Stop> {
+    let table = Table::read(bytes);
+    progress.clear();
+    let table = table.map_err(|wrong| match wrong {
+        Wrong::Lines(lines) => problems(name, &lines),
+        Wrong::Whole(message) => Stop::bad(format!("{name}: {message}")),
+    })?;
+    write_all(job.output.as_deref(), table.text().as_bytes())
 }
 
 /// Below the dispatches asked about why each was answered as it was.

@@ -1,4 +1,4 @@
-//! The commands of docs/JOURNAL.md, docs/CASES.md and of a section of README.md
+//! The commands of docs/JOURNAL.md, docs/CASES.md and of two sections of README.md
 //! are run, and what they print and write is what stands there.
 //!
 //! A `console` block has lines `$ COMMAND`, a line that ends in `\` going on in
@@ -69,7 +69,7 @@ fn commands<'l, B: Iterator<Item = &'l str>>(
     out
 }
 
-/// Runs a command in a folder and answers what it prints.
+/// Runs a command in a folder and answers what it prints, on both streams.
 fn printed(command: &str, folder: &Path) -> String {
     if let Some(rest) = command.strip_prefix(CASES) {
         // The example's own code, without cargo.
@@ -87,6 +87,14 @@ fn printed(command: &str, folder: &Path) -> String {
             }
         };
     }
+    let (code, out, errors) = ran(command, folder);
+    assert_eq!(code, 0, "{command}: {errors}");
+    out + &errors
+}
+
+/// Runs a command in a folder: its exit status, standard output and standard
+/// error.
+fn ran(command: &str, folder: &Path) -> (i32, String, String) {
     let tools = folder.join("tools");
     let path = std::env::var("PATH").unwrap();
     let output = Command::new("sh")
@@ -95,21 +103,25 @@ fn printed(command: &str, folder: &Path) -> String {
         .env("PATH", format!("{}:{path}", tools.display()))
         .output()
         .unwrap();
-    assert!(output.status.success(), "{command}: {output:?}");
-    String::from_utf8(output.stdout).unwrap() + &String::from_utf8(output.stderr).unwrap()
+    let code = output.status.code().unwrap();
+    let [out, errors] = [output.stdout, output.stderr].map(|s| String::from_utf8(s).unwrap());
+    (code, out, errors)
 }
 
 /// A folder as the repository's root is to the commands.
 fn ready(name: &str) -> Folder {
     let folder = Folder::new(name);
-    for part in ["tools", "docs", "examples/journals"] {
+    for part in ["tools", "docs"] {
         fs::create_dir_all(folder.0.join(part)).unwrap();
     }
     std::os::unix::fs::symlink(JOURNAL, folder.0.join("tools/journal")).unwrap();
-    for entry in fs::read_dir(root().join("examples/journals")).unwrap() {
-        let entry = entry.unwrap();
-        let to = folder.0.join("examples/journals").join(entry.file_name());
-        fs::copy(entry.path(), to).unwrap();
+    for part in ["examples/journals", "examples/priorities"] {
+        fs::create_dir_all(folder.0.join(part)).unwrap();
+        for entry in fs::read_dir(root().join(part)).unwrap() {
+            let entry = entry.unwrap();
+            let to = folder.0.join(part).join(entry.file_name());
+            fs::copy(entry.path(), to).unwrap();
+        }
     }
     folder
 }
@@ -174,13 +186,18 @@ fn the_page_about_the_cases_shows_what_its_commands_give() {
     assert!(text.contains(&shares.concat()));
 }
 
+/// A section of README.md by its title.
+fn section(title: &str) -> String {
+    let readme = fs::read_to_string(root().join("README.md")).unwrap();
+    let (_, section) = readme.split_once(&format!("\n## {title}\n")).unwrap();
+    section.split_once("\n## ").unwrap().0.to_string()
+}
+
 /// README's section about a dispatch: what its commands print, and of each line
 /// of the answer the record that it comes from.
 #[test]
 fn the_section_why_a_thread_ran_is_true() {
-    let readme = fs::read_to_string(root().join("README.md")).unwrap();
-    let (_, section) = readme.split_once("\n## Why did the viewer run?\n").unwrap();
-    let (section, _) = section.split_once("\n## ").unwrap();
+    let section = section("Why did the viewer run?");
     let indented = section.lines().filter_map(|line| line.strip_prefix("    "));
     let shown = commands("README.md", std::iter::once(indented));
     let folder = ready("README");
@@ -219,4 +236,36 @@ fn the_section_why_a_thread_ran_is_true() {
     has("report tick 3000", "42 0 ");
     has("wake 3", "47 0 ");
     has("dispatch", "48 0 3 8000 ");
+}
+
+/// The indented blocks of a text.
+fn blocks(text: &str) -> Vec<Vec<&str>> {
+    let parts = text.trim().split("\n\n");
+    parts
+        .filter_map(|part| part.lines().map(|l| l.strip_prefix("    ")).collect())
+        .collect()
+}
+
+/// README's section about a customer's table: the shipped file, what the command
+/// prints of it, and what it says of the wrong one that the text speaks of.
+#[test]
+fn the_section_about_a_customers_priorities_is_true() {
+    let section = section("A customer's own priorities");
+    let blocks = blocks(&section);
+    let (file, rest) = blocks.split_first().unwrap();
+    let folder = ready("README-priorities");
+    let site = fs::read_to_string(folder.0.join("examples/priorities/site.txt")).unwrap();
+    assert_eq!(file.join("\n") + "\n", site);
+    let shown = commands("README.md", rest.iter().map(|block| block.iter().copied()));
+    let [usable, wrong] = &shown[..] else {
+        panic!("two commands expected: {shown:?}");
+    };
+    let result = ran(&usable.command, &folder.0);
+    assert_eq!(result, (0, usable.printed.clone(), String::new()));
+
+    assert!(section.contains("With a 7 in the place of the 8"));
+    assert_eq!(site.matches('8').count(), 1);
+    fs::write(folder.0.join("site.txt"), site.replace('8', "7")).unwrap();
+    let result = ran(&wrong.command, &folder.0);
+    assert_eq!(result, (1, String::new(), wrong.printed.clone()));
 }

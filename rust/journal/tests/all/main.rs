@@ -7,6 +7,8 @@ mod documents;
 mod draw;
 mod output;
 mod part;
+mod priorities;
+mod priority_tables;
 mod stats;
 mod text;
 mod view;
