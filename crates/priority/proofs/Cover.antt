@@ -40,7 +40,8 @@ pub rows-most : (ws : List PriorityRow) → wellFormedRows ws ≤ length ws
 unfolding wellFormedRows
 rows-most [] = omega arith
 rows-most (w ∷ ws) =
-    by (λ b. cond b (suc (wellFormedRows ws)) 0 ≤ suc (length ws)) (wellFormed w) (λ _. let k = rows-most ws in omega arith) (λ _. omega arith)
+    by (λ b. cond b (suc (wellFormedRows ws)) 0 ≤ suc (length ws)) (wellFormed w)
+    (λ _. let k = rows-most ws in omega arith) (λ _. omega arith)
 
 -- a priority in no row
 abbrev Outside : ℕ → List PriorityRow → Type 0
@@ -110,7 +111,10 @@ in-some p [] n = absurd (omega arith)
 in-some p (w ∷ ws) n =
     by (λ b. 1 ≤ cond b 1 0 + rowsWith p ws → Some p (w ∷ ws)) (standsIn p w)
     (λ e k. record { row = 0; there = omega arith; inside = is-in w p e })
-    (λ e k. let o = in-some p ws (omega arith) in let t = o .there in record { row = suc (o .row); there = omega arith; inside = o .inside })
+    (λ e k.
+    let o = in-some p ws (omega arith) in
+    let t = o .there in
+    record { row = suc (o .row); there = omega arith; inside = o .inside })
     n
 
 pub in-several : (p : ℕ) (ws : List PriorityRow) → 2 ≤ rowsWith p ws → Several p ws

@@ -15,8 +15,10 @@ use Rattle.priority.specs.Usable.{Within, Formed, In}
 
 pub is-within : (low high n : ℕ) → T (within low high n) → Within low high n
 unfolding within
-is-within low high n t =
-    (leb-true low n (is (leb low n) (and-l (leb low n) (leb n high) t)), leb-true n high (is (leb n high) (and-r (leb low n) (leb n high) t)))
+is-within low high n t = (
+  leb-true low n (is (leb low n) (and-l (leb low n) (leb n high) t)),
+  leb-true n high (is (leb n high) (and-r (leb low n) (leb n high) t)),
+)
 
 pub to-within : (low high n : ℕ) → Within low high n → T (within low high n)
 unfolding within

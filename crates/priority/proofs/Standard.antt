@@ -12,8 +12,8 @@ use Rattle.base.proofs.Bools.{cases, is, holds}
 use Rattle.base.proofs.Sums.{everyBelow-at}
 use Rattle.priority.specs.declared.table.Lookup.the-variants.{Reservation, Refused}
 use Rattle.priority.specs.Priority.{mappingOf}
-use Rattle.priority.specs.Table.{wellFormed, standsIn, wellFormedRows, rowsWith, faultFrom, lowestFault, reservationIn, rowsOf, lookup}
-use Rattle.priority.specs.Table.{standardTable}
+use Rattle.priority.specs.Table.{wellFormed, standsIn, wellFormedRows, rowsWith, faultFrom, lowestFault, reservationIn}
+use Rattle.priority.specs.Table.{rowsOf, lookup, standardTable}
 use Rattle.priority.specs.Usable.{Within, Usable, untabled}
 use Rattle.priority.proofs.Lookup.{inside, below, above, given}
 use Rattle.priority.proofs.Formed.{upto, outside-low, outside-high}

@@ -1,7 +1,7 @@
 -- The theorems on tables of priorities (RULE 3.7), for every table and every priority asked for: `table-answered`, what is true in each
 -- case of the answer; from it, that 22 names the first bad row and 23 the lowest bad priority, exactly (`first-row`, `row-first`,
--- `lowest-priority`, `priority-lowest`), the order of the checks (`count-before`, `row-first`, `priority-lowest`, `asked-last`), that a table
--- that can be used gives each priority one reservation (`usable-gives`), and that what stands past the count is not looked at.
+-- `lowest-priority`, `priority-lowest`), the order of the checks (`count-before`, `row-first`, `priority-lowest`, `asked-last`), that a
+-- table that can be used gives each priority one reservation (`usable-gives`), and that what stands past the count is not looked at.
 use mathlib.Core.Path.{_≡_, refl, sym, ap, subst, _∙_}
 use mathlib.Core.Logic.{_⊎_, inl, inr}
 use mathlib.Core.List.{List, [], _∷_, _++_}
@@ -22,7 +22,8 @@ use Rattle.priority.specs.Usable.{Within, noRow, rowAt, Formed, In, InOn
 use Rattle.priority.specs.Usable.{Usable, Answered, badCount, badRow, badCover, badAsked, mapped}
 use Rattle.priority.proofs.Formed.{upto, outside-low, outside-high}
 use Rattle.priority.proofs.Lookup.{too-few, too-many, bad-row, bad-cover, asked-below, asked-above, given}
-use Rattle.priority.proofs.Cover.{rows-formed, row-not-formed, rows-most, in-none, in-one, in-several, fault-from, fault-before, fault-at}
+use Rattle.priority.proofs.Cover.{rows-formed, row-not-formed, rows-most, in-none, in-one, in-several}
+use Rattle.priority.proofs.Cover.{fault-from, fault-before, fault-at}
 
 -- A table's rows by number.
 module _ (t : PriorityTable) where

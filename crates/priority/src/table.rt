@@ -2,7 +2,7 @@
 ghost use mathlib.Core.Path.{_≡_};
 ghost use Prim.Native.Nat.{_≤_};
 ghost use lib.ListN.{take};
-ghost use Rattle.priority.specs.Table.{wellFormed, standsIn, wellFormedRows, lowestFault, lookup, standardTable};
+ghost use Rattle.priority.specs.Table.{wellFormed, standsIn, wellFormedRows, lowestFault, lookup, only, standardTable};
 ghost use Rattle.priority.specs.Inner.{joined, heldFrom};
 ghost use Rattle.priority.specs.declared.table.Lookup.the-variants.{Refused};
 use crate::HIGHEST;
@@ -170,7 +170,7 @@ pub fn reservation_under(table: PriorityTable, priority: u64) -> Lookup
 
 // A row of one priority.
 fn only(priority: u64, reservation: u64) -> PriorityRow
-    ensures { λ r. ⌜ r ≡ record { first = priority; last = priority; reservation = reservation } ⌝ }
+    ensures { λ r. ⌜ r ≡ only priority reservation ⌝ }
 {
     PriorityRow {
         first: priority,

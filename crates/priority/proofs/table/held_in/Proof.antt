@@ -73,5 +73,5 @@ loop-less-2 c = omega arith
 pub held-in-spec : {M : Type 1} → statement M
 held-in-spec =
     tie.close
-    (tie.spec Inv-loop μ-loop loop-holds mul-row array-copy-out-row add-i stands-in-requires joined-requires loop-less loop-again loop-less-2
-    loop-again-2 returns)
+    (tie.spec Inv-loop μ-loop loop-holds mul-row array-copy-out-row add-i stands-in-requires joined-requires loop-less loop-again
+    loop-less-2 loop-again-2 returns)

@@ -120,5 +120,5 @@ pub reservation-under-spec : {M : Type 1} → statement M
 reservation-under-spec =
     tie.close
     (tie.spec refused-requires returns refused-requires-2 returns-2 well-formed-rows-requires cast-row refused-requires-3 returns-3
-    lowest-fault-requires cast-lowest refused-requires-4 returns-4 refused-requires-5 returns-5 refused-requires-6 returns-6 held-in-requires
-    cast-reservation returns-7)
+    lowest-fault-requires cast-lowest refused-requires-4 returns-4 refused-requires-5 returns-5 refused-requires-6 returns-6
+    held-in-requires cast-reservation returns-7)
