@@ -124,6 +124,67 @@ fn all_ends_of_three_rows() {
     assert!(tables.outside > 300_000, "{tables:?}");
 }
 
+/// All tables of four rows that are well formed: every cover of the priorities by four runs.
+#[test]
+fn all_runs_of_four_rows() {
+    let ends: Vec<u64> = (1..=10).collect();
+    let lists = [1, 2, 2, 4].map(|reservation| {
+        let mut rows = all_rows(&ends, &[reservation]);
+        rows.retain(|row| row.first <= row.last);
+        rows
+    });
+    let of = lists.each_ref().map(|rows| &rows[..]);
+    let mut tables = Tables::default();
+    // Three cuts of nine, the rows in any order.
+    let found = usable_among(&of, &mut tables);
+    assert_eq!(found, [84 * 24, 55u64.pow(4)]);
+    let mut wanted = sorts();
+    wanted.retain(|sort| sort.0 == 23 || *sort == (0, 4, "rows") || sort.2 == "asked outside");
+    assert_eq!(tables.seen(), wanted);
+    assert_eq!(tables.rarer(&wanted, 300), [], "{tables:?}");
+}
+
+/// All 512 ways to part 1 to 10, the rows upwards and downwards, from any one on.
+#[test]
+fn all_partitions() {
+    let mut tables = Tables::default();
+    for cuts in 0..512u32 {
+        // Bit p - 1 of the cuts ends a row with p.
+        let ends = |p: &u64| *p == 10 || cuts >> (p - 1) & 1 == 1;
+        let mut first = 1;
+        let mut rows: Vec<Row> = Vec::new();
+        for last in (1..=10).filter(ends) {
+            rows.push(row(first, last, 90 + first));
+            first = last + 1;
+        }
+        for turn in 0..2 * rows.len() {
+            if turn == rows.len() {
+                rows.reverse();
+            }
+            rows.rotate_left(1);
+            let mut table = Table {
+                rows: [row(1, 10, 7); ROWS],
+                count: rows.len() as u64,
+            };
+            table.rows[..rows.len()].copy_from_slice(&rows);
+            for priority in 1..=10 {
+                let own = (1..=priority).rev().find(|p| *p == 1 || ends(&(p - 1)));
+                let line = compared(&table, priority, &mut tables);
+                assert_eq!(line.reservation as u64, 90 + own.unwrap(), "{table:?}");
+            }
+        }
+    }
+    let wanted: Vec<Sort> = (1..=10).map(|rows| (0, rows, "rows")).collect();
+    assert_eq!(tables.seen(), wanted);
+    // Two ways round, from any row on, each asked for ten priorities.
+    let each = [1, 9, 36, 84, 126, 126, 84, 36, 9, 1];
+    for (sort, (ways, rows)) in wanted.iter().zip(each.iter().zip(1..)) {
+        let times = ways * 2 * rows * 10;
+        assert_eq!(tables.rarer(&[*sort], times), [], "{tables:?}");
+        assert_eq!(tables.rarer(&[*sort], times + 1), [*sort], "{tables:?}");
+    }
+}
+
 /// All tables of two rows and of three with few ends and every sort of reservation.
 #[test]
 fn all_reservations_of_three_rows() {
