@@ -78,7 +78,7 @@
  *     mtr_sound             5752            3936
  *     mtr_priority            16               8
  *     mtr_subtree           8252            6647
- *     mtr_priority_under     600             900
+ *     mtr_priority_under     564            1726
  *     mtr_lag              11224            4545
  *     mtr_share            11216            4550
  *     mtr_roster           14600           31288
@@ -943,8 +943,8 @@ MTR_MUST_USE static inline mtr_answer mtr_subtree(const mtr_scheduler *state,
  *   4 MTR_REFUSED_AMOUNT: the priority that is asked for is outside 1 to 10
  * The table is unchanged.
  */
-MTR_MUST_USE static inline mtr_priority_line mtr_priority_under(const mtr_priority_table *table,
-    uint64_t priority)
+MTR_MUST_USE static inline mtr_priority_line
+mtr_priority_under(const mtr_priority_table *table, uint64_t priority)
 {
     return mtr_by_value_priority_under(*table, priority);
 }

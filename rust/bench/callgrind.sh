@@ -9,7 +9,7 @@ bench=target/cargo/speed/bench
 work=$(mktemp -d)
 trap 'rm -rf "$work"' EXIT
 
-printf '%-12s%8s%10s  %-42s%8s  %-42s%s\n' call threads cheapest '' dearest '' ratio
+printf '%-16s%8s%10s  %-42s%8s  %-42s%s\n' call threads cheapest '' dearest '' ratio
 for call in $("$bench" calls); do
     rm -f "$work"/*
     # Counts only within the exported function, and parts them where a case begins and where it ends.
@@ -34,7 +34,7 @@ for call in $("$bench" calls); do
         END {
             for (i = 1; i <= n; i++) {
                 t = order[i]
-                printf "%-12s%8s%10d  %-42s%8d  %-42s%.2f\n", call, t, low[t], cheap[t], high[t], dear[t], high[t] / low[t]
+                printf "%-16s%8s%10d  %-42s%8d  %-42s%.2f\n", call, t, low[t], cheap[t], high[t], dear[t], high[t] / low[t]
             }
         }'
 done

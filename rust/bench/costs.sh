@@ -12,7 +12,7 @@ awk '
     BEGIN { print "# call, bytes of stack, instructions of the dearest case; written by rust/bench/costs.sh" }
     FNR == 1 { file++ }
     file == 1 && FNR > 1 {
-        row = substr($0, 73)
+        row = substr($0, 77)
         split(row, word, " ")
         if (word[1] + 0 > most[$1]) most[$1] = word[1] + 0
     }

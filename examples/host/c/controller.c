@@ -1,7 +1,8 @@
 /*
  * A controller's main loop on a virtual clock, in C: readout, pumps, an archive, the lab's viewer and an exporter that waits
  * for a server whose replies come sooner or later, under a timer that fires up to 50 ticks late. For a while a method change
- * needs more readout. Every call of the scheduler is journalled into event blocks.
+ * needs more readout. The lab's programs are admitted by their priorities, under a table of the lab's own (lab.h). Every call
+ * of the scheduler is journalled into event blocks.
  *
  *     cc -std=c11 -O2 -Iinclude examples/host/c/controller.c target/staticlib/libabi.a -o target/controller
  *     target/controller SEED JOURNAL [MILLISECONDS]
@@ -15,6 +16,7 @@
 #include <stdio.h>
 #include <stdlib.h>
 
+#include "lab.h"
 #include "mtr.h"
 
 /* ---- the scheduler and its journal ---- */
@@ -154,9 +156,6 @@ static int32_t allotment(const host *h, unsigned thread)
 
 enum { READOUT, PUMPS, VIEWER, EXPORTER, SELF_TEST, ARCHIVE, TASKS };
 
-/* The lab's side of the controller, in a group of its own. */
-enum { LAB = 1, LAB_CEILING = 150 };
-
 /* Readout during a method change, and the archive, which makes room for it. */
 enum { RAISED = 700, LOWERED = 50 };
 
@@ -165,23 +164,23 @@ enum { LATEST = 50 };
 
 /*
  * A thread works for a burst of ticks, ends it for the reason given and, if it blocked, is woken after a pause. One pause of
- * eight is longer by the factor `late`. A burst of 0 never ends.
+ * eight is longer by the factor `late`. A burst of 0 never ends. The lab's threads have priorities and no reservations.
  */
 typedef struct task {
     uint8_t group;
-    uint16_t reservation;
+    uint16_t reservation, priority;
     uint32_t burst_low, burst_high;
     uint8_t reason;
     uint32_t pause_low, pause_high, late;
 } task;
 
 static const task tasks[TASKS] = {
-    [READOUT] = { 0, 500, 0, 0, MTR_REASON_TICK, 0, 0, 1 },
-    [PUMPS] = { 0, 100, 600, 900, MTR_REASON_BLOCK, 10000, 10000, 1 },
-    [VIEWER] = { LAB, 50, 3000, 8000, MTR_REASON_YIELD, 0, 0, 1 },
-    [EXPORTER] = { LAB, 100, 1500, 4000, MTR_REASON_BLOCK, 200, 3000, 10 },
-    [SELF_TEST] = { 0, 50, 5000, 5000, MTR_REASON_EXIT, 0, 0, 1 },
-    [ARCHIVE] = { 0, 200, 0, 0, MTR_REASON_TICK, 0, 0, 1 },
+    [READOUT] = { 0, 500, 0, 0, 0, MTR_REASON_TICK, 0, 0, 1 },
+    [PUMPS] = { 0, 100, 0, 600, 900, MTR_REASON_BLOCK, 10000, 10000, 1 },
+    [VIEWER] = { LAB, 0, 3, 3000, 8000, MTR_REASON_YIELD, 0, 0, 1 },
+    [EXPORTER] = { LAB, 0, 8, 1500, 4000, MTR_REASON_BLOCK, 200, 3000, 10 },
+    [SELF_TEST] = { 0, 50, 0, 5000, 5000, MTR_REASON_EXIT, 0, 0, 1 },
+    [ARCHIVE] = { 0, 200, 0, 0, 0, MTR_REASON_TICK, 0, 0, 1 },
 };
 
 static const uint64_t NEVER = UINT64_MAX;
@@ -193,6 +192,8 @@ typedef struct debt {
 
 typedef struct world {
     uint64_t clock, random;
+    /* What the lab's priorities are worth. */
+    mtr_priority_table priorities;
     /* Ticks left of each task's burst, and when it is woken. */
     uint32_t left[TASKS];
     uint64_t due[TASKS];
@@ -223,7 +224,8 @@ static void begin_burst(world *w, unsigned n)
 
 static void admit_task(host *h, world *w, unsigned n)
 {
-    must(admit(h, (uint8_t)n, tasks[n].group, tasks[n].reservation));
+    const task *t = &tasks[n];
+    must(admit(h, (uint8_t)n, t->group, t->group == LAB ? imported(&w->priorities, t->priority) : t->reservation));
     begin_burst(w, n);
 }
 
@@ -261,13 +263,13 @@ static void boot(host *h, world *w)
     start(h, 0, MTR_DEFAULT_INTERVAL, 0);
     start(h, MTR_DEFAULT_THOUSANDTH, MTR_DEFAULT_INTERVAL, MTR_DEFAULT_THOUSANDTH);
     start(h, MTR_DEFAULT_THOUSANDTH, MTR_DEFAULT_INTERVAL, LATEST);
-    mtr_run idle;
-    dispatch(h, &idle);
+    dispatch(h, &(mtr_run){ 0, 0, 0 });
     report(h, MTR_REASON_TICK, 1);
     open_group(h, LAB, 2, LAB_CEILING);
     open_group(h, LAB, 0, LAB_CEILING);
     open_group(h, LAB, 0, LAB_CEILING);
     open_group(h, 2, 0, 1001);
+    w->priorities = lab_table();
     for (unsigned n = 0; n < TASKS; n++)
         admit_task(h, w, n);
     admit(h, READOUT, 0, 1);
@@ -435,8 +437,6 @@ int main(int argc, char **argv)
     if (h.journal == NULL)
         fail("the journal cannot be opened");
     w.random = seed;
-    for (unsigned n = 0; n < TASKS; n++)
-        w.due[n] = NEVER;
     simulate(&h, &w, 1000 * milliseconds);
     if (h.count > 0)
         flush_block(&h);

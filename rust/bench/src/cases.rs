@@ -2,16 +2,16 @@
 
 use std::hint::black_box;
 
-use check::compare::{to_library, to_library_record};
+use check::compare::{to_library, to_library_record, to_library_table};
 use model::rule::{Scheduler, BLOCK, EXIT, TICK, YIELD};
 use mtr::numbers;
 
 use crate::states::{
-    above_groups, block_first, records, reservation, running, sloped, threads, worn,
+    above_groups, block_first, even_table, records, reservation, running, sloped, threads, worn,
 };
 
 /// The calls by their exported names without `mtr_by_value_`.
-pub const CALLS: [&str; 17] = [
+pub const CALLS: [&str; 18] = [
     "start",
     "open",
     "close",
@@ -24,6 +24,7 @@ pub const CALLS: [&str; 17] = [
     "sound",
     "priority",
     "subtree",
+    "priority_under",
     "lag",
     "share",
     "roster",
@@ -91,6 +92,7 @@ fn cases(call: &str) -> Vec<Case> {
         "priority" => vec![case("-".into(), "normal".into(), || {
             numbers::priority(black_box(5)).answer
         })],
+        "priority_under" => tables(),
         "write_block" => blocks(true),
         "read_block" => blocks(false),
         _ => {
@@ -116,6 +118,28 @@ fn cases(call: &str) -> Vec<Case> {
             cases
         }
     }
+}
+
+/// Tables of rows of one size, asked for the priority of the first row and of
+/// the last.
+fn tables() -> Vec<Case> {
+    let mut cases = Vec::new();
+    for count in [1, 2, 5, 10] {
+        for (order, down) in [("upwards", false), ("downwards", true)] {
+            let table = to_library_table(&even_table(count, down));
+            let ends = [
+                ("first", table.rows[0].first),
+                ("last", table.rows[count - 1].last),
+            ];
+            for (place, priority) in ends {
+                let name = format!("rows: {count} {order}, the {place}");
+                cases.push(case("-".into(), name, move || {
+                    numbers::priority_under(*black_box(&table), black_box(priority)).answer
+                }));
+            }
+        }
+    }
+    cases
 }
 
 fn open(n: u64, deep: bool, cases: &mut Vec<Case>) {

@@ -9,6 +9,7 @@
 
 mod cases;
 mod journals;
+mod plain;
 mod rounds;
 mod states;
 mod times;

@@ -2,6 +2,7 @@
 
 use model::blocks::{fields, Record, RECORDS};
 use model::rule::{Scheduler, BLOCK, METER_LIMIT, TICK};
+use model::table::{Row, Table};
 
 /// Reservation of each of n threads: all fit group 0 with 40 to spare, and half
 /// of them fit 480.
@@ -80,6 +81,28 @@ pub fn sloped(n: u64, deep: bool, falling: bool) -> Scheduler {
         t.ticks = s.meter / 64;
     }
     s
+}
+
+/// A table of priorities of 1, 2, 5 or 10 rows, each with as many priorities,
+/// from the lowest up or from the highest down.
+pub fn even_table(count: usize, down: bool) -> Table {
+    let size = 10 / count as u64;
+    let mut table = Table {
+        count: count as u64,
+        ..Table::default()
+    };
+    let rows = &mut table.rows[..count];
+    for (row, place) in rows.iter_mut().zip(0..) {
+        *row = Row {
+            first: 1 + size * place,
+            last: size * (place + 1),
+            reservation: 11 + place,
+        };
+    }
+    if down {
+        rows.reverse();
+    }
+    table
 }
 
 /// A full block's records, of every kind.

@@ -2,15 +2,17 @@
 
 use std::hint::black_box;
 
-use check::compare::{to_library, to_library_record};
+use check::compare::{to_library, to_library_record, to_library_table};
 use model::accounts::Entry;
 use model::blocks::{decode, write_block, Record, BLOCK as BLOCK_BYTES, RECORDS};
 use model::by_value;
 use model::rule::{Scheduler, BLOCK, BLOCKED, TICK};
+use model::table::{asked, Table};
 use mtr::{numbers, raw};
 
+use crate::plain;
 use crate::rounds::{measure, Side};
-use crate::states::{records, reservation, sloped, threads, worn};
+use crate::states::{even_table, records, reservation, sloped, threads, worn};
 
 fn line(name: &str, threads: &str, sides: Vec<Side>) {
     let by_value = sides.len() > 2;
@@ -177,6 +179,32 @@ fn soundness(n: u64) {
     line("soundness test", &n.to_string(), sides);
 }
 
+#[inline(never)]
+fn under_by_value(table: Table, priority: u64) -> model::table::Line {
+    plain::under(&table, priority)
+}
+
+/// A usable table of n rows, asked for the priority of the last.
+fn priority_under(n: usize) {
+    let own = even_table(n, false);
+    for priority in 0..=11 {
+        assert_eq!(plain::under(&own, priority), asked(&own, priority));
+    }
+    let table = to_library_table(&own);
+    let sides: Vec<Side> = vec![
+        Box::new(|| {
+            black_box(numbers::priority_under(*black_box(&table), black_box(10)));
+        }),
+        Box::new(|| {
+            black_box(plain::under(black_box(&own), black_box(10)));
+        }),
+        Box::new(|| {
+            black_box(under_by_value(*black_box(&own), black_box(10)));
+        }),
+    ];
+    line("priority under n rows", &n.to_string(), sides);
+}
+
 fn roster(name: &str, s: Scheduler) {
     let state = to_library(&s);
     let mut table = [numbers::Entry::default(); 64];
@@ -261,6 +289,9 @@ pub fn print() {
         for n in [1, 8, 64] {
             row(n);
         }
+    }
+    for n in [1, 5, 10] {
+        priority_under(n);
     }
     roster("roster", worn(64, false));
     roster("roster, lags falling", sloped(64, false, true));

@@ -26,14 +26,19 @@ fn include() -> String {
     format!("-I{}", boundary::root().join("include").display())
 }
 
-/// What an answer says, from the library's own list.
-fn texts() -> Vec<String> {
+/// What the answers from 0 to this say, from the library's own list.
+fn texts(last: u64) -> Vec<String> {
     let sources =
         |path: &str| fs::read_to_string(boundary::root().join(path)).map_err(|e| e.to_string());
     let interface = boundary::interface::resolve(&sources).unwrap();
     let answers = interface.families.iter().find(|f| f.c == "mtr_answer");
     let names = &answers.unwrap().names;
-    names.iter().map(|n| boundary::words(&n.doc)).collect()
+    assert_eq!(names.len(), 23);
+    let text = |number| match names.iter().find(|n| n.value == number) {
+        Some(n) => boundary::words(&n.doc),
+        None => "no listed answer".to_string(),
+    };
+    (0..=last).map(text).collect()
 }
 
 /// No warning, and the program's checks hold: each function beside its export.
@@ -41,9 +46,10 @@ fn texts() -> Vec<String> {
 fn every_function() {
     let folder = folder("c-functions");
     let source = committed("rust/boundary/tests/program.c");
-    let mut wanted = texts();
-    wanted.push("no listed answer".to_string());
-    assert_eq!(wanted.len(), 22);
+    // No function answers 21.
+    let wanted = texts(24);
+    let unlisted = (0..25).filter(|&i| wanted[i] == "no listed answer");
+    assert!(unlisted.eq([21, 24]), "{wanted:?}");
     for (compiler, standard, name) in standards() {
         fs::write(folder.join(name), &source).unwrap();
         let mut compile = Command::new(compiler);
@@ -106,8 +112,17 @@ fn mistakes_do_not_compile() {
         ("mtr_run r; mtr_dispatch(&s, &r); return 0;", "unused"),
         ("mtr_change(&s, 5, 700); return 0;", "unused"),
         ("mtr_sound(&s); return 0;", "unused"),
+        (
+            "mtr_priority_table t = mtr_standard_table(); mtr_priority_under(&t, 5); return s.count != 0;",
+            "unused",
+        ),
         ("mtr_answer a = mtr_dispatch(s); return a == 0;", ""),
         ("mtr_answer a = mtr_wake(s, 5); return a == 0;", ""),
+        // What it hands back is no answer alone.
+        (
+            "mtr_priority_table t = mtr_standard_table(); mtr_answer a = mtr_priority_under(&t, 5); return a == s.count;",
+            "mtr_priority_line",
+        ),
         (
             "mtr_answer a = mtr_start(&s, 100, 20000); return a == 0;",
             "mtr_start",
@@ -153,7 +168,7 @@ fn stack() {
             compile.arg(archive()).args(["-Wl,-z,now", "-o", "stack"]);
             assert_eq!(printed(compile.current_dir(&folder)), "");
             let told = printed(&mut Command::new(folder.join("stack")));
-            assert_eq!(told.lines().count(), 17, "{told}");
+            assert_eq!(told.lines().count(), 18, "{told}");
             for line in told.lines() {
                 let (name, taken) = line.split_once(' ').unwrap();
                 let taken: usize = taken.parse().unwrap();

@@ -36,7 +36,7 @@ fn filled(name: &str) -> PathBuf {
 }
 
 /// Its files but the crate's sources.
-const FILES: [&str; 23] = [
+const FILES: [&str; 25] = [
     "KIT",
     "PROVED.md",
     "README",
@@ -47,8 +47,10 @@ const FILES: [&str; 23] = [
     "bin/mtrrun",
     "bin/mtrwhy",
     "examples/host/c/controller.c",
+    "examples/host/c/lab.h",
     "examples/host/rust/Cargo.toml",
     "examples/host/rust/src/host.rs",
+    "examples/host/rust/src/lab.rs",
     "examples/host/rust/src/main.rs",
     "examples/host/rust/src/world.rs",
     "include/mtr.h",

@@ -57,6 +57,16 @@ fn asserts_hold_the_layout() {
         ("    int64_t lag;", "    int32_t lag;"),
         ("    int32_t allotment;", "    int64_t allotment;"),
         ("    uint16_t overrun;", "    uint32_t overrun;"),
+        ("    uint64_t first;", "    uint32_t first;"),
+        ("    uint32_t place;", "    uint64_t place;"),
+        (
+            "    mtr_priority_row rows[10];",
+            "    mtr_priority_row rows[11];",
+        ),
+        (
+            "    mtr_priority_row rows[10];\n    uint64_t count;",
+            "    uint64_t count;\n    mtr_priority_row rows[10];",
+        ),
         (
             "    uint8_t parent;\n    uint8_t opened;",
             "    uint8_t opened;\n    uint8_t parent;",
@@ -130,7 +140,7 @@ fn both_assert_the_same() {
     assert_eq!(size, Some([8, 8]));
     let structs = c.keys().filter(|key| key.1.is_empty()).count();
     assert!(
-        structs == 13 && c.len() > 60,
+        structs == 16 && c.len() > 70,
         "{structs} structs, {} lines",
         c.len()
     );
@@ -215,7 +225,7 @@ fn the_archive_has_the_functions() {
         .collect();
     present.sort_unstable();
     declared.sort_unstable();
-    assert_eq!(declared.len(), 18);
+    assert_eq!(declared.len(), 20);
     assert_eq!(present, declared);
     needed.sort_unstable();
     let libc = ["memcmp", "memcpy", "memmove", "memset"];

@@ -119,6 +119,109 @@ static void figures(void)
     HOLD(same(&state, &before));
 }
 
+static bool equal(mtr_priority_line a, mtr_priority_line b)
+{
+    return a.answer == b.answer && a.place == b.place && a.reservation == b.reservation;
+}
+
+/* What a priority has under a table, which is as it was afterwards; the export has the same. */
+static void asked(const mtr_priority_table *table, uint64_t priority, uint32_t answer, uint32_t place, uint32_t reservation,
+    unsigned line)
+{
+    const mtr_priority_table before = *table;
+    const mtr_priority_line found = mtr_priority_under(table, priority);
+    hold(found.answer == answer, mtr_answer_text(CAST(mtr_answer, found.answer)), line);
+    hold(found.place == place, "the place", line);
+    hold(found.reservation == reservation, "the reservation", line);
+    hold(equal(found, mtr_by_value_priority_under(before, priority)), "the export's reply", line);
+    hold(memcmp(table, &before, sizeof before) == 0, "the table afterwards", line);
+}
+#define ASKED(priority, answer, place, reservation)                                                                                  \
+    asked(&table, priority, answer, place, reservation, CAST(unsigned, __LINE__))
+
+/* A table of three rows, the highest first, with anything in the entries past them. */
+static mtr_priority_table three(void)
+{
+    static const mtr_priority_row rows[] = { { 8, 10, 40 }, { 1, 3, 10 }, { 4, 7, 1000 } };
+    mtr_priority_table table;
+    memset(&table, 0xa5, sizeof table);
+    memcpy(table.rows, rows, sizeof rows);
+    table.count = 3;
+    return table;
+}
+
+/* Each refusal with its place, in the order in which they are looked for. */
+static void refused_tables(void)
+{
+    mtr_priority_table table = three();
+    ASKED(0, MTR_REFUSED_AMOUNT, 0, 0);
+    ASKED(11, MTR_REFUSED_AMOUNT, 0, 0);
+    /* Cut to 32 bits this would be 5. */
+    ASKED((UINT64_C(1) << 32) + 5, MTR_REFUSED_AMOUNT, 0, 0);
+    /* 4 is in no row, and after that 3 in two; so it is whichever priority is asked for. */
+    table.rows[2].first = 5;
+    ASKED(8, MTR_REFUSED_TABLE_COVER, 4, 0);
+    ASKED(0, MTR_REFUSED_TABLE_COVER, 4, 0);
+    table.rows[2].first = 3;
+    ASKED(8, MTR_REFUSED_TABLE_COVER, 3, 0);
+    /* Also where both rows have the same to give. */
+    table.rows[2].reservation = 10;
+    ASKED(8, MTR_REFUSED_TABLE_COVER, 3, 0);
+    /* A row that can't be comes before that, the first of them first. */
+    table.rows[2].last = 11;
+    ASKED(8, MTR_REFUSED_TABLE_ROW, 2, 0);
+    table.rows[1].reservation = MTR_WHOLE + 1;
+    ASKED(11, MTR_REFUSED_TABLE_ROW, 1, 0);
+    table.rows[0].first = 10;
+    table.rows[0].last = 8;
+    ASKED(8, MTR_REFUSED_TABLE_ROW, 0, 0);
+    /* And the number of rows before those. */
+    table.count = 0;
+    ASKED(8, MTR_REFUSED_AMOUNT, 0, 0);
+    table.count = MTR_PRIORITY_ROWS + 1;
+    ASKED(8, MTR_REFUSED_AMOUNT, 0, 0);
+    table = three();
+    table.rows[0].first = 0;
+    ASKED(8, MTR_REFUSED_TABLE_ROW, 0, 0);
+    table = three();
+    table.rows[1].reservation = 0;
+    ASKED(8, MTR_REFUSED_TABLE_ROW, 1, 0);
+    /* Cut to 32 bits this would be 1. */
+    table = three();
+    table.rows[1].first = (UINT64_C(1) << 32) + 1;
+    ASKED(8, MTR_REFUSED_TABLE_ROW, 1, 0);
+    /* Cut to 32 bits this would be 3. */
+    table = three();
+    table.count = (UINT64_C(1) << 32) + 3;
+    ASKED(8, MTR_REFUSED_AMOUNT, 0, 0);
+}
+
+static void tables(void)
+{
+    static const uint32_t wanted[] = { 10, 10, 10, 1000, 1000, 1000, 1000, 40, 40, 40 };
+    mtr_priority_table table = three();
+    for (uint32_t priority = 1; priority <= MTR_HIGHEST_PRIORITY; priority++)
+        ASKED(priority, MTR_ACCEPTED, 0, wanted[priority - 1]);
+    /* What stands past the rows does not matter. */
+    for (unsigned char byte = 0; byte < 255; byte++) {
+        memset(table.rows + 3, byte, sizeof table.rows - 3 * sizeof *table.rows);
+        ASKED(5, MTR_ACCEPTED, 0, 1000);
+        ASKED(0, MTR_REFUSED_AMOUNT, 0, 0);
+    }
+    refused_tables();
+    /* The standard table has what a priority has without a table. */
+    table = mtr_standard_table();
+    HOLD(table.count == MTR_PRIORITY_ROWS && table.rows[0].first == MTR_HIGHEST_PRIORITY);
+    for (uint64_t priority = 0; priority <= 12; priority++) {
+        uint32_t reservation = 0;
+        const mtr_answer answer = mtr_priority(priority, &reservation);
+        HOLD((answer == MTR_ACCEPTED) == (priority >= 1 && priority <= 10));
+        ASKED(priority, CAST(uint32_t, answer), 0, reservation);
+    }
+    const mtr_priority_table again = mtr_standard_table();
+    HOLD(memcmp(&again, &table, sizeof table) == 0);
+}
+
 /* A timer that fires up to 9 ticks late: the debt is kept, also by a yield. */
 static void overruns(void)
 {
@@ -223,11 +326,12 @@ int main(void)
 {
     calls();
     figures();
+    tables();
     overruns();
     changes();
     blocks();
     HOLD(mtr_version() == MTR_VERSION);
-    for (uint32_t answer = 0; answer <= 21; answer++)
+    for (uint32_t answer = 0; answer <= 24; answer++)
         printf("%s\n", mtr_answer_text(CAST(mtr_answer, answer)));
     return failures == 0 ? 0 : 1;
 }

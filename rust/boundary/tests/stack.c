@@ -14,6 +14,7 @@ static mtr_scheduler state, other;
 static mtr_run run;
 static mtr_entry table[MTR_THREADS];
 static mtr_records list;
+static mtr_priority_table priorities;
 static uint8_t area[MTR_BLOCK_BYTES];
 static size_t count;
 static uint32_t number;
@@ -33,6 +34,7 @@ static void f_change(void) { answer = mtr_change(&state, 9, 7); }
 static void f_sound(void) { answer = !mtr_sound(&state); }
 static void f_priority(void) { answer = mtr_priority(5, &number); }
 static void f_subtree(void) { answer = mtr_subtree(&state, 0, &number); }
+static void f_priority_under(void) { answer = mtr_priority_under(&priorities, 1).answer; }
 static void f_lag(void) { answer = mtr_lag(&state, 5, &lag); }
 static void f_share(void) { answer = mtr_share(&state, 5, &number); }
 static void f_roster(void) { answer = mtr_roster(&state, table, MTR_THREADS, &count); }
@@ -75,6 +77,7 @@ int main(void)
         { "sound", f_sound },
         { "priority", f_priority },
         { "subtree", f_subtree },
+        { "priority_under", f_priority_under },
         { "lag", f_lag },
         { "share", f_share },
         { "roster", f_roster },
@@ -83,6 +86,7 @@ int main(void)
     };
     if (mtr_start(&state, 100, 20000, 99) != MTR_ACCEPTED || mtr_admit(&state, 5, 0, 500) != MTR_ACCEPTED)
         return 1;
+    priorities = mtr_standard_table();
     const size_t nothing = taken(f_nothing);
     for (size_t i = 0; i < sizeof all / sizeof *all; i++) {
         const size_t bytes = taken(all[i].function);

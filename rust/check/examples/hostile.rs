@@ -55,6 +55,7 @@ fn main() {
     println!("{:?}", attack.late);
     println!("{:?}", attack.changes);
     println!("{:?}", attack.shares);
+    println!("{:?}", attack.tables);
     let spent = begun.elapsed().as_secs_f64();
     println!("idle dispatches {}", attack.idle);
     println!("{} calls in {spent:.1} s, no difference", attack.calls());

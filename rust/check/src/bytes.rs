@@ -5,12 +5,15 @@
 
 use model::blocks::Record;
 use model::rule::{Reply, Scheduler, Settings, Thread};
+use model::table::{Line, Table};
 use mtr::raw;
 use std::mem::size_of;
 
 pub const STATE: usize = size_of::<raw::Scheduler>();
 pub const REPLY: usize = size_of::<raw::Reply>();
 pub const FOUND: usize = size_of::<raw::Found>();
+pub const TABLE: usize = size_of::<raw::PriorityTable>();
+pub const LINE: usize = size_of::<raw::PriorityLine>();
 
 /// A struct of numbers whose bytes all belong to a field.
 ///
@@ -48,6 +51,9 @@ whole! {
     Reply { answer, thread, slice, before, state }
     Mapped { answer, reservation }
     Total { answer, thousandths }
+    PriorityRow { first, last, reservation }
+    PriorityTable { rows, count }
+    PriorityLine { answer, place, reservation }
     LagLine { answer, lag }
     ShareLine { answer, share }
     Entry { number, state, allotment, share, lag }
@@ -149,6 +155,27 @@ pub fn reply(reply: &Reply, s: &Scheduler) -> [u8; REPLY] {
         area.put(&number.to_le_bytes());
     }
     area.state(s);
+    area.whole()
+}
+
+/// The bytes of a table of priorities.
+pub fn table(table: &Table) -> [u8; TABLE] {
+    let mut area = Area::new();
+    for row in &table.rows {
+        for number in [row.first, row.last, row.reservation] {
+            area.put(&number.to_le_bytes());
+        }
+    }
+    area.put(&table.count.to_le_bytes());
+    area.whole()
+}
+
+/// The bytes of what a priority has under a table.
+pub fn line(line: &Line) -> [u8; LINE] {
+    let mut area = Area::new();
+    for number in [line.answer, line.place, line.reservation] {
+        area.put(&number.to_le_bytes());
+    }
     area.whole()
 }
 

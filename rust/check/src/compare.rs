@@ -13,6 +13,7 @@ use model::accounts::Entry;
 use model::blocks::{kind, Record};
 use model::calls::{self, Call};
 use model::rule::{self, Group, Reply, Scheduler, Settings, Thread};
+use model::table::{Line, Row, Table};
 use mtr::numbers;
 
 /// The state made of the types of a module, each field from that of its name.
@@ -80,6 +81,39 @@ pub fn to_model_record(record: &numbers::Record) -> Record {
         amount: record.amount,
         overrun: record.overrun,
         ticks: record.ticks,
+    }
+}
+
+/// A table of priorities as the library takes it.
+pub fn to_library_table(table: &Table) -> numbers::PriorityTable {
+    numbers::PriorityTable {
+        rows: table.rows.map(|row| numbers::PriorityRow {
+            first: row.first,
+            last: row.last,
+            reservation: row.reservation,
+        }),
+        count: table.count,
+    }
+}
+
+/// A table of the library's as the model holds it.
+pub fn to_model_table(table: &numbers::PriorityTable) -> Table {
+    Table {
+        rows: table.rows.map(|row| Row {
+            first: row.first,
+            last: row.last,
+            reservation: row.reservation,
+        }),
+        count: table.count,
+    }
+}
+
+/// What a priority has under a table, as the library answers it.
+pub fn to_library_line(line: Line) -> numbers::PriorityLine {
+    numbers::PriorityLine {
+        answer: line.answer,
+        place: line.place,
+        reservation: line.reservation,
     }
 }
 

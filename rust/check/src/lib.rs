@@ -5,6 +5,7 @@
 //! - [`share`]: a share by its meaning, and what occurred of shares.
 //! - [`late`]: what occurred of overruns.
 //! - [`changes`]: what occurred of changes of a reservation.
+//! - [`tables`]: what occurred of tables of priorities.
 //! - [`program`]: `mtrrun` and `mtrwhy`, run as they were built.
 //! - [`why`]: questions to `mtrwhy`, and the sorts of their answers.
 //! - [`attack`]: arbitrary bytes and arguments to every exported function.
@@ -29,4 +30,5 @@ pub mod late;
 pub mod program;
 pub mod share;
 pub mod stack;
+pub mod tables;
 pub mod why;

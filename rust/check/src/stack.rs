@@ -4,11 +4,11 @@
 //! The exported function is called by hand, register by register, so that nothing counts but what the
 //! calling convention and the library's own frames put there.
 
-use crate::compare::{to_library, to_library_record, to_model};
+use crate::compare::{to_library, to_library_record, to_library_table, to_model};
 use core::arch::asm;
 use model::calls::Call as Made;
-use model::random::{any_record, hostile_state, sound_state, Rng};
-use mtr::raw::{self, Entry, Found, Records, Reply};
+use model::random::{any_record, any_table, asked_priority, hostile_state, sound_state, Rng};
+use mtr::raw::{self, Entry, Found, PriorityLine, PriorityTable, Records, Reply};
 use mtr::{Reason, Scheduler, Settings};
 
 /// Bytes of the painted stack.
@@ -20,7 +20,7 @@ struct Painted([u8; STACK]);
 
 /// What a call is handed.
 struct Handed {
-    /// What goes by value over the stack, and its bytes: a state, records or nothing.
+    /// What goes by value over the stack, and its bytes: a state, a table, records or nothing.
     value: (*const u8, usize),
     /// What goes in registers, the reply's address first where the reply goes over memory.
     numbers: [u64; 6],
@@ -71,7 +71,7 @@ impl Painted {
 
 /// The calls by their names in C without `mtr_`, the exported function of each, and the bytes of the
 /// reply that the function in C keeps on the stack.
-const CALLS: [(&str, *const (), usize); 17] = [
+const CALLS: [(&str, *const (), usize); 18] = [
     ("start", raw::mtr_by_value_start as *const (), REPLY),
     ("open", raw::mtr_by_value_open as *const (), REPLY),
     ("close", raw::mtr_by_value_close as *const (), REPLY),
@@ -84,6 +84,11 @@ const CALLS: [(&str, *const (), usize); 17] = [
     ("sound", raw::mtr_by_value_sound as *const (), 0),
     ("priority", raw::mtr_by_value_priority as *const (), 8),
     ("subtree", raw::mtr_by_value_subtree as *const (), 8),
+    (
+        "priority_under",
+        raw::mtr_by_value_priority_under as *const (),
+        size_of::<PriorityLine>(),
+    ),
     ("lag", raw::mtr_by_value_lag as *const (), 16),
     ("share", raw::mtr_by_value_share as *const (), 8),
     ("roster", raw::mtr_by_value_roster as *const (), 0),
@@ -134,9 +139,14 @@ fn one(
     for record in list.records.iter_mut().take(count as usize) {
         *record = to_library_record(&any_record(r));
     }
-    if call == 16 && r.chance(3, 4) {
+    if call == 17 && r.chance(3, 4) {
         mtr::numbers::write_first(&mut area, 7, list, count as usize);
     }
+    // The standard table has ten rows, and the priority of the last is asked for.
+    let (priorities, priority) = match r.chance(1, 4) {
+        true => (raw::mtr_standard_table(), raw::LOWEST_PRIORITY),
+        false => (to_library_table(&any_table(r)), asked_priority(r)),
+    };
     let to = reply.as_mut_ptr() as u64;
     let by_value = (state as *const raw::Scheduler).cast();
     let by_value = (by_value, size_of::<raw::Scheduler>());
@@ -148,9 +158,14 @@ fn one(
         9 => (by_value, [0; 6]),
         10 => (nothing, [r.range(0, 11), 0, 0, 0, 0, 0]),
         11 => (by_value, [r.range(0, 3), 0, 0, 0, 0, 0]),
-        12 | 13 => (by_value, [r.range(0, 64), 0, 0, 0, 0, 0]),
-        14 => (by_value, [table.as_mut_ptr() as u64, 64, 0, 0, 0, 0]),
-        15 => {
+        12 => {
+            let rows = (&priorities as *const PriorityTable).cast();
+            let rows = (rows, size_of::<PriorityTable>());
+            (rows, [priority, 0, 0, 0, 0, 0])
+        }
+        13 | 14 => (by_value, [r.range(0, 64), 0, 0, 0, 0, 0]),
+        15 => (by_value, [table.as_mut_ptr() as u64, 64, 0, 0, 0, 0]),
+        16 => {
             let records = (&list as *const Records).cast();
             let records = (records, size_of::<Records>());
             (records, [lent, 512, 7, count, 0, 0])

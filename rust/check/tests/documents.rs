@@ -1,8 +1,9 @@
 //! The documents name what is there: every section of docs/RULE.md that is
 //! cited exists, and so does every definition and theorem in docs/PROOFS.md.
-//! The published table of priorities is that of the code, the library and the model.
+//! The published table of priorities is that of the code, the library and the model, and so is the standard table.
 //! The examples of the manual page of `mtrwhy` print what stands there.
 
+use check::compare::to_model_table;
 use model::rule::priority;
 use mtr::{numbers, raw};
 use std::collections::BTreeSet;
@@ -235,6 +236,47 @@ fn the_table_of_priorities() {
         named,
         [(10, 20, "highest"), (5, 15, "normal"), (1, 11, "lowest")]
     );
+}
+
+/// The rows of the standard table in the code, a priority and its reservation each, and its count.
+fn standard_rows(source: &str) -> (Vec<(u64, u32)>, usize) {
+    let lines: Vec<&str> = part(source, "pub fn standard(", "}")
+        .map(str::trim)
+        .skip_while(|line| *line != "PriorityTable {")
+        .collect();
+    let ["PriorityTable {", "rows: [", rows @ .., "],", count, "}"] = &lines[..] else {
+        panic!("{lines:?}");
+    };
+    let row = |line: &&str| {
+        let numbers = line.strip_prefix("only(").unwrap().strip_suffix("),");
+        let (priority, reservation) = numbers.unwrap().split_once(", ").unwrap();
+        (priority.parse().unwrap(), reservation.parse().unwrap())
+    };
+    let count = count.strip_prefix("count: ").unwrap().strip_suffix(',');
+    (
+        rows.iter().map(row).collect(),
+        count.unwrap().parse().unwrap(),
+    )
+}
+
+/// The standard table has the rows of the published one, in its order: in the code, the library and the model.
+#[test]
+fn the_standard_table() {
+    let rule = read(&root().join("docs/RULE.md"));
+    let source = read(&root().join("crates/priority/src/table.rt"));
+    let rows: Vec<(u64, u32)> = (published(&rule).iter())
+        .map(|&(priority, reservation, _)| (priority, reservation))
+        .collect();
+    assert_eq!(rows.len(), raw::PRIORITY_ROWS);
+    assert_eq!(standard_rows(&source), (rows.clone(), rows.len()));
+
+    let table = numbers::standard_table();
+    assert_eq!(table.count, rows.len() as u64);
+    for (&(priority, reservation), row) in rows.iter().zip(&table.rows) {
+        assert_eq!((row.first, row.last), (priority, priority));
+        assert_eq!(row.reservation, reservation.into());
+    }
+    assert_eq!(to_model_table(&table), model::table::standard());
 }
 
 /// Runs a command at the root, with the proved programs on the path.

@@ -1,9 +1,11 @@
 //! A hostile host: arbitrary bytes and arguments to every exported function, compared with the model,
 //! and lent memory against pages that nobody may touch.
 
-use check::attack::{Attack, ALLOTMENTS, FUNCTIONS, LIMITS, ORIGINS, ROUNDS, SEED};
+use check::attack::{Attack, ALLOTMENTS, ANSWERS, FUNCTIONS, LIMITS, ORIGINS, ROUNDS, SEED};
+use check::compare::to_model_table;
 use check::faults;
 use check::guard::{Guarded, Side};
+use check::tables::sorts;
 use mtr::raw;
 use std::os::unix::process::ExitStatusExt;
 use std::process::Command;
@@ -19,7 +21,9 @@ fn a_million_calls() {
     for ((name, wanted), counts) in FUNCTIONS.iter().zip(&attack.answers) {
         let made: u64 = counts.iter().sum();
         assert!(made > 50_000, "{name}: {made} calls");
-        let seen: Vec<u32> = (0..20).filter(|&a| counts[a as usize] > 0).collect();
+        let seen: Vec<u32> = (0..ANSWERS as u32)
+            .filter(|&a| counts[a as usize] > 0)
+            .collect();
         assert_eq!(seen, *wanted, "{name}");
         let rare = wanted.iter().filter(|&&a| counts[a as usize] < 100);
         assert_eq!(rare.count(), 0, "{name}: {counts:?}");
@@ -27,6 +31,11 @@ fn a_million_calls() {
     assert!(attack.idle > 100, "{} idle", attack.idle);
     let priorities = attack.priorities;
     assert!(priorities.iter().all(|&n| n > 100), "{priorities:?}");
+    // Tables of every number of rows, and every refusal at every row and every priority, for each of its causes.
+    let tables = attack.tables;
+    assert_eq!(tables.seen(), sorts());
+    assert_eq!(tables.rarer(&sorts(), 40), [], "{tables:?}");
+    assert!(tables.outside > 1_000 && attack.standard > 1_000);
     for (origin, [unsound, sound]) in ORIGINS.iter().zip(attack.states) {
         // Bytes all at random are never sound; the others are both, but for the last.
         assert_eq!(unsound > 1_000, *origin != "sound", "{origin}");
@@ -64,10 +73,12 @@ fn every_function() {
         .map(|(name, _)| name)
         .filter(|name| name.starts_with("mtr_"))
         .collect();
-    // mtr_version takes nothing, so that one call is all of them.
+    // These take nothing, so that one call is all of them.
     assert!(raw::mtr_version() > 0);
+    let table = raw::mtr_standard_table();
+    assert_eq!(to_model_table(&table), model::table::standard());
     let mut called: Vec<&str> = FUNCTIONS.iter().map(|(name, _)| *name).collect();
-    called.push("mtr_version");
+    called.extend(["mtr_version", "mtr_standard_table"]);
     for name in &declared {
         assert!(called.contains(name), "{name} is not called");
     }

@@ -21,7 +21,7 @@ fn stated() -> Vec<(String, usize)> {
 #[test]
 fn within_its_limit() {
     let measured = check::stack::measured(300);
-    assert_eq!(measured.len(), 17);
+    assert_eq!(measured.len(), 18);
     for (name, taken) in &measured {
         let most = if *name == "roster" { MOST_ROSTER } else { MOST };
         assert!(

@@ -1,8 +1,9 @@
 //! A controller's main loop on a virtual clock, in Rust: readout, pumps, an
 //! archive, the lab's viewer and an exporter that waits for a server whose
 //! replies come sooner or later, under a timer that fires up to 50 ticks late.
-//! For a while a method change needs more readout. Every call of the scheduler
-//! is journalled into event blocks.
+//! For a while a method change needs more readout. The lab's programs are
+//! admitted by their priorities, under a table of the lab's own. Every call of
+//! the scheduler is journalled into event blocks.
 //!
 //! ```text
 //! cargo run --release -p controller -- SEED JOURNAL [MILLISECONDS]
@@ -17,6 +18,7 @@
 #![forbid(unsafe_code)]
 
 mod host;
+mod lab;
 mod world;
 
 use std::error::Error;

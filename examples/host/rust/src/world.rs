@@ -2,18 +2,15 @@
 
 use std::io;
 
-use mtr::{Dispatch, Event, Reason, Refusal, Settings};
+use mtr::{Dispatch, Event, PriorityTable, Reason, Refusal, Settings};
 
 use crate::host::{Debt, Host, Stretch};
+use crate::lab::{self, LAB, LAB_CEILING};
 
 const READOUT: u8 = 0;
 const VIEWER: u8 = 2;
 const EXPORTER: u8 = 3;
 const ARCHIVE: u8 = 5;
-
-/// The lab's side of the controller, in a group of its own.
-const LAB: u8 = 1;
-const LAB_CEILING: u16 = 150;
 
 /// Readout during a method change, and the archive, which makes room for it.
 const RAISED: u16 = 700;
@@ -29,6 +26,8 @@ const LATEST: u16 = 50;
 struct Task {
     group: u8,
     reservation: u16,
+    /// The lab's threads have priorities and no reservations.
+    priority: Option<u8>,
     burst: Option<(u32, u32)>,
     reason: Reason,
     pause: (u32, u32),
@@ -40,6 +39,7 @@ const TASKS: [Task; 6] = [
     Task {
         group: 0,
         reservation: 500,
+        priority: None,
         burst: None,
         reason: Reason::Tick,
         pause: (0, 0),
@@ -49,6 +49,7 @@ const TASKS: [Task; 6] = [
     Task {
         group: 0,
         reservation: 100,
+        priority: None,
         burst: Some((600, 900)),
         reason: Reason::Block,
         pause: (10_000, 10_000),
@@ -57,7 +58,8 @@ const TASKS: [Task; 6] = [
     // The viewer.
     Task {
         group: LAB,
-        reservation: 50,
+        reservation: 0,
+        priority: Some(3),
         burst: Some((3_000, 8_000)),
         reason: Reason::Yield,
         pause: (0, 0),
@@ -66,7 +68,8 @@ const TASKS: [Task; 6] = [
     // The exporter.
     Task {
         group: LAB,
-        reservation: 100,
+        reservation: 0,
+        priority: Some(8),
         burst: Some((1_500, 4_000)),
         reason: Reason::Block,
         pause: (200, 3_000),
@@ -76,6 +79,7 @@ const TASKS: [Task; 6] = [
     Task {
         group: 0,
         reservation: 50,
+        priority: None,
         burst: Some((5_000, 5_000)),
         reason: Reason::Exit,
         pause: (0, 0),
@@ -85,6 +89,7 @@ const TASKS: [Task; 6] = [
     Task {
         group: 0,
         reservation: 200,
+        priority: None,
         burst: None,
         reason: Reason::Tick,
         pause: (0, 0),
@@ -105,6 +110,8 @@ const STEPS: [Step; 3] = [
 pub struct World {
     clock: u64,
     random: u64,
+    /// What the lab's priorities are worth.
+    priorities: PriorityTable,
     /// Ticks left of each task's burst, none if it has no end.
     left: [Option<u32>; TASKS.len()],
     /// When each task is woken.
@@ -122,6 +129,7 @@ impl World {
         World {
             clock: 0,
             random: seed,
+            priorities: PriorityTable::standard(),
             left: [None; TASKS.len()],
             due: [None; TASKS.len()],
             debts: [Debt::default(); TASKS.len()],
@@ -213,6 +221,7 @@ impl World {
         ] {
             let _refused_or_not = host.call(event)?;
         }
+        self.priorities = lab::table();
         for thread in 0..TASKS.len() as u8 {
             self.admit(host, thread)?;
         }
@@ -294,10 +303,17 @@ impl World {
 
     fn admit(&mut self, host: &mut Host, thread: u8) -> io::Result<()> {
         let task = &TASKS[thread as usize];
+        let reservation = match task.priority {
+            None => task.reservation,
+            Some(priority) => self
+                .priorities
+                .reservation_of(priority)
+                .map_err(io::Error::other)?,
+        };
         let event = Event::Admit {
             thread,
             group: task.group,
-            reservation: task.reservation,
+            reservation,
         };
         host.accepted(event)?;
         self.begin_burst(thread as usize);

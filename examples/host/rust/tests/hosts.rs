@@ -3,7 +3,7 @@
 mod common;
 
 use common::{c_source, compiled, root, run, scratch, thousandths};
-use mtr::{blocks, Event, Reason, Settings};
+use mtr::{blocks, Event, PriorityRow, PriorityTable, Reason, Settings};
 use std::collections::BTreeMap;
 use std::fs;
 use std::path::{Path, PathBuf};
@@ -20,15 +20,18 @@ fn rust_host() -> &'static Path {
     Path::new(env!("CARGO_BIN_EXE_controller"))
 }
 
-/// What both hosts say of a method change that comes too early.
-const EARLY: &str = "controller: no room for 700, readout goes on with 500\n";
+/// What both hosts say of the lab's first table and of a method change that comes too early.
+const SAID: &str = "\
+controller: the lab's table is refused, 23 at 6: a priority stands in no row of the table or in several
+controller: no room for 700, readout goes on with 500
+";
 
 /// What a host prints and journals.
 fn hosted(host: &Path, name: &str, seed: &str, milliseconds: &str) -> (String, Vec<u8>) {
     let journal = scratch(name);
     let words = [seed, journal.to_str().unwrap(), milliseconds];
     let done = run(host, &words);
-    assert_eq!(String::from_utf8_lossy(&done.stderr), EARLY);
+    assert_eq!(String::from_utf8_lossy(&done.stderr), SAID);
     assert!(done.status.success());
     let printed = String::from_utf8(done.stdout).unwrap();
     (printed, fs::read(journal).unwrap())
@@ -239,6 +242,7 @@ fn compare(seed: &str, milliseconds: &str) {
         assert!(line.len() == 5 && line[0] == i as i64);
     }
     every_call_and_refusal(&events, &lines);
+    lab(&events, &lines);
 
     // The debts are kept.
     let in_debt: Vec<Vec<i64>> = in_debt.lines().map(numbers).collect();
@@ -281,6 +285,30 @@ fn every_call_and_refusal(events: &[Event], lines: &[&str]) {
         (ARCHIVE, 200, 0),
     ];
     assert_eq!(others, wanted);
+}
+
+/// The lab's threads are admitted at power-up and half-way, each with what its priority has under the lab's table.
+fn lab(events: &[Event], lines: &[&str]) {
+    let row = |first, last, reservation| PriorityRow {
+        first,
+        last,
+        reservation,
+    };
+    let table = PriorityTable::new(&[row(1, 5, 50), row(6, 10, 100)]).unwrap();
+    let admitted: Vec<(u8, u16)> = (events.iter().zip(lines))
+        .filter(|(_, line)| numbers(line)[1] == 0)
+        .filter_map(|(event, _)| match *event {
+            Event::Admit {
+                thread,
+                group: 1,
+                reservation,
+            } => Some((thread, reservation)),
+            _ => None,
+        })
+        .collect();
+    let [viewer, exporter] = [(2, 3), (3, 8)]
+        .map(|(thread, priority)| (thread, table.reservation_of(priority).unwrap()));
+    assert_eq!(admitted, [viewer, exporter, viewer, exporter]);
 }
 
 /// Readout's bound over every part of each stretch, its shares, and its lag and share in the roster.
@@ -405,6 +433,10 @@ fn the_page() {
     let differs = |path: &&PathBuf| before.get(*path) != after.get(*path);
     let changed: Vec<&PathBuf> = before.keys().chain(after.keys()).filter(differs).collect();
     assert!(changed.is_empty(), "{changed:?}");
+    // What both say stands there too.
+    for line in SAID.lines() {
+        assert!(page.contains(line), "{line}");
+    }
     let [_, c, rust, _, replayed] = &printed[..] else {
         panic!("{}", printed.len());
     };

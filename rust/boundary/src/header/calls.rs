@@ -1,7 +1,7 @@
 //! The functions that a host calls: each takes a pointer to the state, makes
 //! the exported call by value and stores what it hands back.
 
-use super::{boxed, declared, described, folded, listed, slice};
+use super::{boxed, declared, described, folded, headed, listed, slice};
 use crate::interface::{c_name, Field, Form, Function, Interface, Pass, Struct};
 use crate::ANSWER;
 
@@ -82,10 +82,10 @@ pub fn print(interface: &Interface, f: &Function, name: &str) -> String {
         }
         _ => (answer, counted(&call, &outs)),
     };
-    let head = folded(&format!(
-        "MTR_MUST_USE static inline {result} mtr_{name}({})",
-        listed(&parameters)
-    ));
+    let head = headed(
+        &format!("MTR_MUST_USE static inline {result}"),
+        &format!("mtr_{name}({})", listed(&parameters)),
+    );
     let body: String = lines
         .iter()
         .map(|line| folded(&format!("    {line}")) + "\n")

@@ -2,6 +2,8 @@
 
 mod calls;
 mod head;
+#[cfg(test)]
+mod tests;
 
 use crate::costs::Cost;
 use crate::interface::{c_name, Constant, Family, Form, Function, Interface, Pass, Struct};
@@ -154,6 +156,18 @@ fn folded(line: &str) -> String {
         width += part.len();
     }
     out
+}
+
+/// A function's head. Its name begins a line where it does not fit behind the
+/// result with what stands before the first comma.
+fn headed(result: &str, rest: &str) -> String {
+    let line = format!("{result} {rest}");
+    let first = line.split(", ").next().map_or(0, str::len);
+    // The comma too, where one follows.
+    match first + usize::from(first < line.len()) > WIDTH {
+        true => format!("{result}\n{}", folded(rest)),
+        false => folded(&line),
+    }
 }
 
 /// What a function does, refuses and leaves unchanged.

@@ -94,10 +94,10 @@ fn with(calls: &str) -> Result<Interface, Error> {
     resolve(&move |path: &str| {
         let text = match path {
             "crates/abi/src/lib.rt" => {
-                "pub mod blocks;\npub mod calls;\npub mod roster;\npub mod version;"
+                "pub mod blocks;\npub mod calls;\npub mod roster;\npub mod tables;\npub mod version;"
             }
             "crates/abi/src/calls.rt" => &calls,
-            "crates/abi/src/roster.rt" => "",
+            "crates/abi/src/roster.rt" | "crates/abi/src/tables.rt" => "",
             "crates/abi/src/version.rt" => {
                 "pub const MAJOR: u32 = 2; pub const MINOR: u32 = 3; pub const PATCH: u32 = 4;"
             }
@@ -106,6 +106,9 @@ fn with(calls: &str) -> Result<Interface, Error> {
             "crates/scheduler/src/threads.rt" => RUN,
             "crates/priority/src/lib.rt" => {
                 "pub const LOWEST: u64 = 1; pub const HIGHEST: u64 = 10;"
+            }
+            "crates/priority/src/table.rt" => {
+                "pub const ROWS: u64 = 9; pub const ROW: u32 = 32; pub const COVER: u32 = 33;"
             }
             "crates/scheduler/src/refusal.rt" => REFUSAL,
             "crates/scheduler/src/batch.rt" => "pub const HALTED: u32 = 20;",
@@ -145,21 +148,17 @@ fn offsets() {
         ("Records", 248, 4, vec![0], true),
     ];
     assert_eq!(layout, wanted);
-    let records = found
-        .families
-        .iter()
-        .flat_map(|f| &f.names)
-        .find(|n| n.name == "RECORDS");
-    assert_eq!(records.map(|n| n.value), Some(31));
-    let mut names = found.families.iter().flat_map(|f| &f.names);
-    let version = names.find(|n| n.name == "VERSION");
-    assert_eq!(version.map(|n| n.value), Some(20304));
+    for (name, value) in [("RECORDS", 31), ("PRIORITY_ROWS", 9), ("VERSION", 20304)] {
+        let mut names = found.families.iter().flat_map(|f| &f.names);
+        let constant = names.find(|n| n.name == name);
+        assert_eq!(constant.map(|n| n.value), Some(value), "{name}");
+    }
 }
 
 #[test]
 fn slices() {
     let found = with("").unwrap();
-    let [_, _, blocks, _] = &found.sections[..] else {
+    let [_, _, _, blocks, _] = &found.sections[..] else {
         panic!("{:?}", found.sections);
     };
     let [write] = &blocks.functions[..] else {
@@ -290,7 +289,7 @@ fn every_module_is_printed() {
     let found = resolve(&|_: &str| Ok("pub mod calls;".to_string()));
     assert_eq!(
             found.unwrap_err().to_string(),
-            "crates/abi/src/lib.rt:1: the modules are [\"calls\"], and the sections [\"blocks\", \"calls\", \"roster\", \"version\"]"
+            "crates/abi/src/lib.rt:1: the modules are [\"calls\"], and the sections [\"blocks\", \"calls\", \"roster\", \"tables\", \"version\"]"
         );
 }
 
@@ -322,6 +321,15 @@ fn names_of_a_source() {
         answers[2],
         of("REFUSED_UNSOUND", 16, "The state is not sound.")
     );
-    assert_eq!(answers[3].1, 17);
+    let rest: Vec<_> = answers[3..].iter().map(|a| (&a.0[..], a.1)).collect();
+    let wanted = [
+        ("REFUSED_LENGTH", 17),
+        ("REFUSED_CHECK", 18),
+        ("REFUSED_FORM", 19),
+        ("REFUSED_NOT_STARTED", 20),
+        ("REFUSED_TABLE_ROW", 32),
+        ("REFUSED_TABLE_COVER", 33),
+    ];
+    assert_eq!(rest, wanted);
     assert_eq!(family("mtr_kind"), [of("KIND_OPEN", 1, "Opens.")]);
 }

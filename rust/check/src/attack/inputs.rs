@@ -1,11 +1,14 @@
 //! What is passed: states, arguments, records and blocks, arbitrary or nearly right.
 
-use crate::bytes::{self, STATE};
+use crate::bytes::{self, STATE, TABLE};
 use crate::compare::{to_library, to_library_record, to_model};
 use crate::guard::Side;
 use model::blocks::{check, write_block, BLOCK, RECORD};
 use model::calls::Call;
-use model::random::{any_record, edge_value, hostile_state, sound_state, Rng};
+use model::random::{
+    any_record, any_table, asked_priority, damaged_tables, edge_value, hostile_state, sound_state,
+    usable_table, Rng,
+};
 use model::rule::Scheduler;
 use mtr::raw::{self, Record, Records};
 use std::mem::size_of;
@@ -184,13 +187,17 @@ fn report(r: &mut Rng, state: &raw::Scheduler) -> Call {
     let slice = allotment.min(state.settings.interval as u64);
     let most = slice + state.settings.overrun as u64;
     Call::Report {
-        reason: argument(r, 3),
-        used: match r.below(8) {
+        reason: if r.chance(1, 2) {
+            r.range(0, 3)
+        } else {
+            argument(r, 3)
+        },
+        used: match r.below(10) {
             0 => argument(r, 1_000_000),
             1 => slice + r.below(2),
             2 => most + r.below(2),
             3 | 4 => r.edgy(slice, most),
-            5 => allotment.min(most),
+            5..=7 => allotment.min(most),
             _ => r.edgy(0, slice),
         },
     }
@@ -244,6 +251,42 @@ pub(super) fn any_length(r: &mut Rng) -> usize {
         0 => r.range(0, 1_100) as usize,
         1 => r.pick(&[0, 1, 14, 30, 510, 511, 513, 514, 1_024]),
         _ => BLOCK,
+    }
+}
+
+/// The bytes of a table of priorities: any, one of the model's of any sort, damaged or usable, of which some bytes may
+/// be changed, or the library's standard one.
+pub(super) fn any_priorities(r: &mut Rng) -> [u8; TABLE] {
+    let mut any = [0; TABLE];
+    match r.below(16) {
+        0 => any_bytes(r, &mut any),
+        1 => any.copy_from_slice(bytes::of(&raw::mtr_standard_table())),
+        2 | 3 => {
+            let damaged = damaged_tables(r);
+            any = bytes::table(&damaged[r.below(damaged.len() as u64) as usize].1);
+        }
+        4..=6 => any = bytes::table(&usable_table(r)),
+        _ => any = bytes::table(&any_table(r)),
+    }
+    if r.chance(1, 8) {
+        for _ in 0..r.edgy(1, 4) {
+            let byte = &mut any[r.below(TABLE as u64) as usize];
+            *byte = match r.below(3) {
+                0 => r.bits() as u8,
+                1 => *byte ^ 1 << r.below(8),
+                _ => r.edgy(0, 11) as u8,
+            };
+        }
+    }
+    any
+}
+
+/// A priority to ask for under a table.
+pub(super) fn any_priority(r: &mut Rng) -> u64 {
+    if r.chance(1, 4) {
+        argument(r, 10)
+    } else {
+        asked_priority(r)
     }
 }
 

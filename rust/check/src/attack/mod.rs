@@ -5,28 +5,25 @@
 
 mod classes;
 mod inputs;
+mod lent;
 
 pub use classes::{ALLOTMENTS, LIMITS, ORIGINS};
 
 use crate::bytes;
 use crate::changes::Changes;
-use crate::compare::{made, to_library, to_model, to_model_entry, to_model_record, ZEROS};
+use crate::compare::{made, to_library, to_model, ZEROS};
 use crate::faults;
-use crate::guard::{Guarded, Side};
+use crate::guard::Guarded;
 use crate::late::Late;
 use crate::share::Shares;
+use crate::tables::Tables;
 use classes::{allotment, limit};
-use inputs::{
-    any_block, any_bytes, any_call, any_length, any_records, any_side, any_state, argument,
-    near_half, settings,
-};
-use model::blocks::{read_block, write_block};
+use inputs::{any_call, any_state, argument, near_half, settings};
 use model::calls::apply;
 use model::random::Rng;
 use model::rule::{priority, Scheduler};
-use mtr::raw::{self, Entry, LagLine, Mapped, Reply, ShareLine, Total};
+use mtr::raw::{self, LagLine, Mapped, Reply, ShareLine, Total};
 use std::fmt::{Debug, Display};
-use std::mem::size_of;
 
 /// Calls of a round.
 pub const CALLS: u64 = 8;
@@ -35,8 +32,8 @@ pub const CALLS: u64 = 8;
 pub const SEED: u64 = 2026;
 pub const ROUNDS: u64 = 1_000_000 / CALLS;
 
-/// The exported functions, and the answers that each one can give.
-pub const FUNCTIONS: [(&str, &[u32]); 17] = [
+/// The exported functions that take something, and the answers that each one can give.
+pub const FUNCTIONS: [(&str, &[u32]); 18] = [
     ("mtr_by_value_start", &[0, 1]),
     ("mtr_by_value_open", &[0, 2, 3, 4, 5, 16]),
     ("mtr_by_value_close", &[0, 2, 6, 16]),
@@ -54,9 +51,11 @@ pub const FUNCTIONS: [(&str, &[u32]); 17] = [
     ("mtr_by_value_roster", &[0, 16, 17]),
     ("mtr_by_value_write_block", &[0, 17, 19]),
     ("mtr_by_value_read_block", &[0, 17, 18, 19]),
+    ("mtr_by_value_priority_under", &[0, 4, 22, 23]),
 ];
 
-const ENTRY: usize = size_of::<Entry>();
+/// No answer is as great.
+pub const ANSWERS: usize = 24;
 
 /// What was called and answered.
 pub struct Attack {
@@ -65,7 +64,7 @@ pub struct Attack {
     round: u64,
     call: u64,
     /// By function and answer.
-    pub answers: [[u64; 20]; 17],
+    pub answers: [[u64; ANSWERS]; FUNCTIONS.len()],
     /// By origin of the first state: not sound, sound.
     pub states: [[u64; 2]; 5],
     /// By the first state's overrun limit and by the allotments of its listed threads.
@@ -81,6 +80,10 @@ pub struct Attack {
     pub idle: u64,
     /// By priority, from 0 to the first above the table.
     pub priorities: [u64; 12],
+    /// What occurred of tables of priorities.
+    pub tables: Tables,
+    /// Standard tables among them.
+    pub standard: u64,
     /// Lent areas by side and length.
     pub areas: [[u64; 2]; 2],
 }
@@ -92,7 +95,7 @@ impl Attack {
             seed,
             round: 0,
             call: 0,
-            answers: [[0; 20]; 17],
+            answers: [[0; ANSWERS]; FUNCTIONS.len()],
             states: [[0; 2]; 5],
             limits: [[0; 2]; 6],
             allotments: [[0; 2]; 9],
@@ -101,6 +104,8 @@ impl Attack {
             shares: Shares::default(),
             idle: 0,
             priorities: [0; 12],
+            tables: Tables::default(),
+            standard: 0,
             areas: [[0; 2]; 2],
         }
     }
@@ -120,8 +125,11 @@ impl Attack {
             faults::note(self.seed, round, call);
             let function = r.below(FUNCTIONS.len() as u64) as usize;
             let answer = self.make(&mut r, function, &mut state);
-            assert!(answer < 20, "{} answers {answer}", self.place(function));
-            self.answers[function][answer as usize] += 1;
+            let count = self.answers[function].get_mut(answer as usize);
+            match count {
+                Some(count) => *count += 1,
+                None => panic!("{} answers {answer}", self.place(function)),
+            }
         }
     }
 
@@ -217,7 +225,8 @@ impl Attack {
             }
             14 => self.roster(r, state),
             15 => self.write(r),
-            _ => self.read(r),
+            16 => self.read(r),
+            _ => self.under(r),
         }
     }
 
@@ -271,120 +280,6 @@ impl Attack {
         *state = found.state;
         numbers.answer
     }
-
-    fn lent(&mut self, side: Side, length: usize) {
-        self.areas[(side == Side::Back) as usize][(length == 0) as usize] += 1;
-    }
-
-    fn roster(&mut self, r: &mut Rng, state: &raw::Scheduler) -> u32 {
-        let s = to_model(state);
-        let threads = s.list().len() as u64;
-        let length = match r.below(4) {
-            0 => r.edgy(0, 80),
-            1 => threads,
-            2 => threads.saturating_sub(1),
-            _ => threads + r.below(8),
-        } as usize;
-        let side = any_side(r);
-        let mut contents = [0; ENTRY * 80];
-        any_bytes(r, &mut contents);
-        let contents = &contents[..ENTRY * length];
-        let table = self.page.lend(side, contents, r.bits() as u8);
-        self.lent(side, length);
-        // SAFETY: the page holds the table, whose start is aligned on both sides: 24 bytes each.
-        let found = unsafe { raw::mtr_by_value_roster(*state, table.cast(), length) };
-
-        let mut wanted: Vec<_> = contents.chunks_exact(ENTRY).map(entry).collect();
-        let answer = s.roster(&mut wanted);
-        let of = format_args!("of {length} {side:?}");
-        self.same(14, of, found, answer);
-        let after = self.page.contents(side, contents.len());
-        self.same(
-            14,
-            of,
-            after.chunks_exact(ENTRY).map(entry).collect(),
-            wanted,
-        );
-        if answer != 0 {
-            self.same(14, of, after, contents);
-        }
-        self.same(
-            14,
-            "memory around the table",
-            self.page.intact(side, contents.len()),
-            true,
-        );
-        answer
-    }
-
-    fn write(&mut self, r: &mut Rng) -> u32 {
-        let (side, length) = (any_side(r), any_length(r));
-        let number = argument(r, 40) as u32;
-        let count = match r.below(4) {
-            0 => argument(r, 31),
-            1 => r.edgy(0, 33),
-            _ => r.range(0, 31),
-        } as usize;
-        let list = any_records(r);
-        let mut contents = [0; 1100];
-        any_bytes(r, &mut contents);
-        let contents = &contents[..length];
-        let area = self.page.lend(side, contents, r.bits() as u8);
-        self.lent(side, length);
-        // SAFETY: the page holds the area.
-        let found = unsafe { raw::mtr_by_value_write_block(area, length, number, list, count) };
-
-        // Of a count above 31 nothing but the count matters.
-        let mut records: Vec<_> = list.records.iter().map(to_model_record).collect();
-        records.resize(count.min(32), model::blocks::Record::default());
-        let mut wanted = contents.to_vec();
-        let answer = write_block(&mut wanted, number, &records);
-        let of = format_args!("of {length} {side:?}, block {number}, {count} of {list:?}");
-        self.same(15, of, found, answer);
-        self.same(15, of, self.page.contents(side, length), &wanted);
-        if answer != 0 {
-            self.same(15, of, self.page.contents(side, length), contents);
-        }
-        self.same(
-            15,
-            "memory around the area",
-            self.page.intact(side, length),
-            true,
-        );
-        answer
-    }
-
-    fn read(&mut self, r: &mut Rng) -> u32 {
-        let (side, length) = (any_side(r), any_length(r));
-        let (mut number, contents) = any_block(r);
-        if r.chance(1, 8) {
-            number = argument(r, 40) as u32;
-        }
-        let contents = &contents[..length];
-        let area = self.page.lend(side, contents, r.bits() as u8);
-        self.lent(side, length);
-        let found = self.page.read_only(|| {
-            // SAFETY: the page holds the area.
-            unsafe { raw::mtr_by_value_read_block(area, length, number) }
-        });
-
-        let (answer, records) = match read_block(contents, number) {
-            Err(refusal) => (refusal, Vec::new()),
-            Ok(records) => (0, records),
-        };
-        let wanted = bytes::found(answer, &records);
-        let of = format_args!("of {length} {side:?}, block {number}, {contents:?}");
-        self.same(16, of, found, bytes::to(&wanted));
-        self.same(16, "bytes", bytes::of(&found) == wanted, true);
-        self.same(16, of, self.page.contents(side, length), contents);
-        self.same(
-            16,
-            "memory around the area",
-            self.page.intact(side, length),
-            true,
-        );
-        answer
-    }
 }
 
 fn reply(numbers: model::rule::Reply, state: &Scheduler) -> Reply {
@@ -403,10 +298,6 @@ fn split<T: Default>(result: Result<T, u32>) -> (u32, T) {
         Ok(value) => (0, value),
         Err(refusal) => (refusal, T::default()),
     }
-}
-
-fn entry(bytes: &[u8]) -> model::accounts::Entry {
-    to_model_entry(&bytes::to(bytes))
 }
 
 /// Reservations of the threads whose group, or a group above it, is `group`.
