@@ -42,6 +42,14 @@
  * while the reservation stays the same. A change to another amount begins it
  * anew, and a thread that is changed again and again may get next to nothing.
  *
+ * Customers' priorities. A program that comes with a priority of 1 to 10 has the
+ * reservation that mtr_priority answers, or that of the customer's own table: 1
+ * to 10 rows, and every priority in exactly one. mtr_priority_under checks the
+ * table whenever it is asked, so that none has to be trusted. Its answer is
+ * handed back as a struct, since a refusal has a place, a row or a priority.
+ * Where there is no table a host asks mtr_priority, or under
+ * mtr_standard_table(), which is the same; a table of no rows is refused.
+ *
  * Threads and interrupts. The library has no memory of its own, allocates none,
  * and of libc calls the mem functions alone. A call touches what it is handed
  * and the stack, nothing else, so that calls on different states are
@@ -61,9 +69,9 @@
  * reply, and the library's frames; a handler needs it on top of its own, and the
  * functions below add less than 160 bytes with gcc and clang. Instructions are
  * those within the library, in the dearest accepted case that was measured: 64
- * threads in 16 groups, a full block. The copies of the state that the functions
- * below make come on top. Both are measured on this version's code; counts of
- * instructions differ by up to 24 from one run to another.
+ * threads in 16 groups, a full block, a table of ten rows. The copies that the
+ * functions below make come on top. Both are measured on this version's code;
+ * counts of instructions differ by up to 24 from one run to another.
  *
  *     call                 stack    instructions
  *     mtr_start             2800            2716
@@ -251,7 +259,7 @@ typedef enum mtr_answer MTR_UNSIGNED {
     MTR_REFUSED_METER_FULL = 15,
     /* The state is not sound. */
     MTR_REFUSED_UNSOUND = 16,
-    /* The area is not 512 bytes, or the table is too short. */
+    /* The area is not 512 bytes, or the roster's table is too short. */
     MTR_REFUSED_LENGTH = 17,
     /* The check of the block is wrong. */
     MTR_REFUSED_CHECK = 18,
@@ -371,7 +379,7 @@ MTR_MUST_USE static inline const char *mtr_answer_text(mtr_answer answer)
     case MTR_REFUSED_UNSOUND:
         return "the state is not sound";
     case MTR_REFUSED_LENGTH:
-        return "the area is not 512 bytes, or the table is too short";
+        return "the area is not 512 bytes, or the roster's table is too short";
     case MTR_REFUSED_CHECK:
         return "the check of the block is wrong";
     case MTR_REFUSED_FORM:

@@ -244,7 +244,7 @@ pub const FAMILIES: [Family; 10] = [
             one(
                 "REFUSED_LENGTH",
                 constant(ROSTER, "LENGTH"),
-                "The area is not 512 bytes, or the table is too short.",
+                "The area is not 512 bytes, or the roster's table is too short.",
             ),
             one(
                 "REFUSED_CHECK",

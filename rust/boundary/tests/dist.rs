@@ -36,7 +36,7 @@ fn filled(name: &str) -> PathBuf {
 }
 
 /// Its files but the crate's sources.
-const FILES: [&str; 25] = [
+const FILES: [&str; 26] = [
     "KIT",
     "PROVED.md",
     "README",
@@ -53,6 +53,7 @@ const FILES: [&str; 25] = [
     "examples/host/rust/src/lab.rs",
     "examples/host/rust/src/main.rs",
     "examples/host/rust/src/world.rs",
+    "examples/priorities/site.txt",
     "include/mtr.h",
     "lib/cmake/mtr/mtrConfig.cmake",
     "lib/cmake/mtr/mtrConfigVersion.cmake",

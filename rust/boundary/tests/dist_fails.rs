@@ -15,13 +15,14 @@ struct Repository {
     archive: PathBuf,
 }
 
-const FOLDERS: [&str; 8] = [
+const FOLDERS: [&str; 9] = [
     "target/staticlib",
     "target/bin",
     "target/cargo/release",
     "docs",
     "examples/host/c",
     "examples/host/rust/src",
+    "examples/priorities",
     "include",
     "rust/mtr/src",
 ];

@@ -6,6 +6,7 @@
 
 use crate::attack::{Attack, ROUNDS, SEED};
 use crate::journal::{case, replay, Case};
+use crate::table_recipe::compared;
 use crate::why::{cut, failing, questions, sorts};
 use core::ffi::{c_char, c_int, CStr};
 use std::cell::RefCell;
@@ -183,6 +184,7 @@ pub unsafe extern "C" fn LLVMFuzzerTestOneInput(data: *const u8, size: usize) ->
         // SAFETY: as the caller promises.
         unsafe { std::slice::from_raw_parts(data, size) }
     };
+    compared(recipe);
     let case = case(recipe);
     let printed = replay(&case.journal).printed;
     assert!(mtrrun(&case) == printed.as_bytes());

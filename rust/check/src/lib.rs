@@ -6,6 +6,7 @@
 //! - [`late`]: what occurred of overruns.
 //! - [`changes`]: what occurred of changes of a reservation.
 //! - [`tables`]: what occurred of tables of priorities.
+//! - [`table_recipe`]: a table of priorities made of any bytes, and what both sides answer under it.
 //! - [`program`]: `mtrrun` and `mtrwhy`, run as they were built.
 //! - [`why`]: questions to `mtrwhy`, and the sorts of their answers.
 //! - [`attack`]: arbitrary bytes and arguments to every exported function.
@@ -30,5 +31,6 @@ pub mod late;
 pub mod program;
 pub mod share;
 pub mod stack;
+pub mod table_recipe;
 pub mod tables;
 pub mod why;

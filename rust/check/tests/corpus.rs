@@ -6,9 +6,12 @@ use check::journal::{self, case};
 use check::late::Late;
 use check::program::{answered, printed, root, Folder};
 use check::share::Shares;
+use check::table_recipe::{compared, table};
+use check::tables::Tables;
 use check::why::{questions, rarer, sort_of, sorts, Named, Sort, Sorts};
 use model::blocks::read_block;
 use model::why::why;
+use std::collections::BTreeSet;
 use std::path::Path;
 use std::process::Command;
 
@@ -75,6 +78,30 @@ fn the_corpus() {
     assert!(shares.all(1), "{shares:?}");
 }
 
+/// The tables of priorities that the recipes are as well: usable ones, and every cause of a refusal.
+#[test]
+fn the_tables() {
+    let mut seen = Tables::default();
+    for (_, recipe) in recipes() {
+        let (table, priority, line) = compared(&recipe);
+        seen.line(&table, priority, line);
+    }
+    println!("{seen:?}");
+    let causes: BTreeSet<(u32, &str)> = seen.seen().iter().map(|s| (s.0, s.2)).collect();
+    let wanted = [
+        (0, "rows"),
+        (4, "asked outside"),
+        (4, "no row"),
+        (4, "too many rows"),
+        (22, "priority"),
+        (22, "reservation"),
+        (22, "upside down"),
+        (23, "in none"),
+        (23, "in several"),
+    ];
+    assert_eq!(causes, BTreeSet::from(wanted));
+}
+
 /// The questions that the fuzzer asks about each case.
 #[test]
 fn the_questions() {
@@ -108,6 +135,17 @@ fn replay(journal: &[u8]) -> String {
 fn recipes_by_hand() {
     assert_eq!(case(&[]).journal, []);
     assert_eq!(replay(&case(&[]).journal), "");
+    // A table of one row: 1 to 10 with 1, asked for 1. Read from the end: asked for 2; rows of 1 to 5 and 6 to 10.
+    let rows = |recipe: &[u8]| {
+        let (table, priority) = table(recipe);
+        let rows = table.rows.map(|r| (r.first, r.last, r.reservation));
+        (rows[..table.count as usize].to_vec(), priority)
+    };
+    assert_eq!(rows(&[15, 0]), (vec![(1, 10, 1)], 1));
+    assert_eq!(
+        rows(&[0, 0, 20, 52, 4]),
+        (vec![(1, 5, 1000), (6, 10, 20)], 2)
+    );
     // The journal itself.
     let raw = case(&[0, 1, 2, 7, 8, 9]);
     assert_eq!((raw.journal, raw.pieces), (vec![7, 8, 9], [9, 17]));

@@ -126,7 +126,7 @@ pub const REFUSED_REASON: u32 = 14;
 pub const REFUSED_METER_FULL: u32 = 15;
 /// The state is not sound.
 pub const REFUSED_UNSOUND: u32 = 16;
-/// The area is not 512 bytes, or the table is too short.
+/// The area is not 512 bytes, or the roster's table is too short.
 pub const REFUSED_LENGTH: u32 = 17;
 /// The check of the block is wrong.
 pub const REFUSED_CHECK: u32 = 18;
@@ -223,7 +223,7 @@ pub const fn answer_text(answer: u32) -> &'static str {
         REFUSED_REASON => "the reason is above 3",
         REFUSED_METER_FULL => "the meter is at its limit",
         REFUSED_UNSOUND => "the state is not sound",
-        REFUSED_LENGTH => "the area is not 512 bytes, or the table is too short",
+        REFUSED_LENGTH => "the area is not 512 bytes, or the roster's table is too short",
         REFUSED_CHECK => "the check of the block is wrong",
         REFUSED_FORM => "the block or a record has not the form that is asked for",
         REFUSED_NOT_STARTED => {
