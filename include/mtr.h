@@ -86,7 +86,7 @@
  *     mtr_sound             5752            3936
  *     mtr_priority            16               8
  *     mtr_subtree           8252            6647
- *     mtr_priority_under     564            1726
+ *     mtr_priority_under     564            1771
  *     mtr_lag              11224            4545
  *     mtr_share            11216            4550
  *     mtr_roster           14600           31288

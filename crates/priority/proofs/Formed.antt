@@ -1,16 +1,14 @@
 -- A row's tests as statements: well formed, and the priorities that stand in it.
-use mathlib.Core.Path.{_≡_, refl, sym}
-use mathlib.Core.List.{List, [], _∷_}
-use mathlib.Core.Bool.{Bool, true, false, cond, _&&_}
-use Prim.Native.Nat.{ℕ, zero, suc, _≤_, _<_}
+use mathlib.Core.Path.{_≡_}
+use mathlib.Core.Bool.{Bool, true, false, _&&_}
+use Prim.Native.Nat.{ℕ, _≤_, _<_}
 use native.Mathlib.Omega.{arith}
 use lib.Dec.{T, leb}
-use lib.ListN.{length}
 use borrow.Author.Tests.{le-leb, leb-true, leb-false}
 use Rattle.base.specs.Checks.{within}
-use Rattle.base.proofs.Bools.{by, and-l, and-r, both, is, holds, cases, clash}
+use Rattle.base.proofs.Bools.{and-l, and-r, both, is, holds, cases, clash}
 use Rattle.priority.specs.declared.table.PriorityRow.{PriorityRow}
-use Rattle.priority.specs.Table.{wellFormed, standsIn, wellFormedRows, reservationIn}
+use Rattle.priority.specs.Table.{wellFormed, standsIn}
 use Rattle.priority.specs.Usable.{Within, Formed, In}
 
 pub is-within : (low high n : ℕ) → T (within low high n) → Within low high n

@@ -1,20 +1,19 @@
 -- The standard table can be used and gives for every argument what a priority has where no table is given (RULE 3.6): the ten lines are
 -- computed, all at once.
 use mathlib.Core.Path.{_≡_, refl, sym, ap, _∙_}
-use mathlib.Core.Bool.{Bool, true, false, cond}
-use Prim.Native.Nat.{ℕ, zero, suc, _+_, _-_, _≤_, _<_}
+use Prim.Native.Nat.{ℕ, zero, suc, _+_, _≤_}
 use native.Mathlib.Omega.{arith}
-use lib.Dec.{T, leb, eqb}
-use borrow.Author.Tests.{leb-true, leb-false, eqb-true}
+use lib.Dec.{T, eqb}
+use borrow.Author.Tests.{eqb-true}
 use Rattle.base.specs.Checks.{within}
 use Rattle.base.specs.Lists.{everyBelow}
-use Rattle.base.proofs.Bools.{cases, is, holds}
+use Rattle.base.proofs.Bools.{is}
 use Rattle.base.proofs.Sums.{everyBelow-at}
-use Rattle.priority.specs.declared.table.Lookup.the-variants.{Reservation, Refused}
+use Rattle.priority.specs.declared.table.Lookup.the-variants.{Reservation}
 use Rattle.priority.specs.Priority.{mappingOf}
 use Rattle.priority.specs.Table.{wellFormed, standsIn, wellFormedRows, rowsWith, faultFrom, lowestFault, reservationIn}
 use Rattle.priority.specs.Table.{rowsOf, lookup, standardTable}
-use Rattle.priority.specs.Usable.{Within, Usable, untabled}
+use Rattle.priority.specs.Usable.{Usable, untabled}
 use Rattle.priority.proofs.Lookup.{inside, below, above, given}
 use Rattle.priority.proofs.Formed.{upto, outside-low, outside-high}
 use Rattle.priority.proofs.Usable.{asked-last, reservation-usable}

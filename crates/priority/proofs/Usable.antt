@@ -2,15 +2,14 @@
 -- case of the answer; from it, that 22 names the first bad row and 23 the lowest bad priority, exactly (`first-row`, `row-first`,
 -- `lowest-priority`, `priority-lowest`), the order of the checks (`count-before`, `row-first`, `priority-lowest`, `asked-last`), that a
 -- table that can be used gives each priority one reservation (`usable-gives`), and that what stands past the count is not looked at.
-use mathlib.Core.Path.{_≡_, refl, sym, ap, subst, _∙_}
+use mathlib.Core.Path.{_≡_, sym, ap, subst, _∙_}
 use mathlib.Core.Logic.{_⊎_, inl, inr}
-use mathlib.Core.List.{List, [], _∷_, _++_}
-use mathlib.Core.Bool.{Bool, true, false, cond}
-use Prim.Native.Nat.{ℕ, zero, suc, _+_, _≤_, _<_, min}
+use mathlib.Core.List.{List}
+use Prim.Native.Nat.{ℕ, suc, _≤_, _<_}
 use native.Mathlib.Omega.{arith}
 use lib.Dec.{eqb}
-use lib.ListN.{length, getD, take, length-take}
-use lib.Seq.{getD-take, take-at, length-take-le}
+use lib.ListN.{length, getD, length-take}
+use lib.Seq.{getD-take}
 use borrow.Author.Tests.{eqb-true, eqb-false}
 use Rattle.base.proofs.Bools.{cases}
 use Rattle.priority.specs.declared.table.PriorityRow.{PriorityRow}
@@ -286,8 +285,72 @@ module _ (t : PriorityTable) (p : ℕ) where
       go (badAsked v o f) = inr (v, o)
       go (mapped v r o f) = differ (λ n. omega arith) e f
 
--- Whatever stands past the count, the answer is the same.
-pub past-count : (t : PriorityTable) (others : List PriorityRow) (p : ℕ) → t .count ≤ length (t .rows)
-    → lookup (record { rows = rowsOf t ++ others; count = t .count }) p ≡ lookup t p
-unfolding lookup
-past-count t others p h = rw (take-at (rowsOf t) others (t .count) (length-take-le (t .count) (t .rows) h))
+-- Tables of the same count whose rows below it are the same have the same answer, whatever stands past the count.
+module _ (n : ℕ) (ws vs : List PriorityRow) (same : (i : ℕ) → i < n → getD ws i noRow ≡ getD vs i noRow) where
+  abbrev t : PriorityTable
+  t = record { rows = ws; count = n }
+
+  abbrev v : PriorityTable
+  v = record { rows = vs; count = n }
+
+  moves-in : (p i : ℕ) → i < n → In p (rowAt t i) → In p (rowAt v i)
+  moves-in p i h k = subst (In p) (same i h) k
+
+  moves-back : (p i : ℕ) → i < n → In p (rowAt v i) → In p (rowAt t i)
+  moves-back p i h k = subst (In p) (sym (same i h)) k
+
+  moves-one : (p : ℕ) → InOne t p → InOne v p
+  moves-one p o = record {
+    row = o .row;
+    there = o .there;
+    inside = moves-in p (o .row) (o .there) (o .inside);
+    alone = λ j h k. o .alone j h (moves-back p j h k)
+  }
+
+  moves-bad : (p : ℕ) → InNone t p ⊎ InSeveral t p → InNone v p ⊎ InSeveral v p
+  moves-bad p (inl none) = inl (λ i h k. none i h (moves-back p i h k))
+  moves-bad p (inr o) =
+      let a = o .apart in
+      let k = o .there in
+      inr record {
+        row = o .row;
+        other = o .other;
+        apart = a;
+        there = k;
+        inside = moves-in p (o .row) (omega arith) (o .inside);
+        too = moves-in p (o .other) k (o .too)
+      }
+
+  moves-formed : AllFormed t → AllFormed v
+  moves-formed a i h = subst Formed (same i h) (a i h)
+
+  moves-first : (i : ℕ) → FirstBad t i → FirstBad v i
+  moves-first i f =
+      let h = f .there in
+      record {
+        there = h;
+        bad = λ k. f .bad (subst Formed (sym (same i h)) k);
+        before = λ j l. subst Formed (same j (omega arith)) (f .before j l)
+      }
+
+  moves-lowest : (q : ℕ) → LowestBad t q → LowestBad v q
+  moves-lowest q l =
+      record { range = l .range; bad = moves-bad q (l .bad); below = λ r low h. moves-one r (l .below r low h) }
+
+  moves-usable : Usable t → Usable v
+  moves-usable u =
+      record { counted = u .counted; formed = moves-formed (u .formed); covered = λ p r. moves-one p (u .covered p r) }
+
+  pub past-count : (p : ℕ) → lookup t p ≡ lookup v p
+  past-count p = go (table-answered t p)
+    where
+      go : Answered t p (lookup t p) → lookup t p ≡ lookup v p
+      go (badCount c e) = e ∙ sym (count-before v p c)
+      go (badRow i c f e) = e ∙ sym (row-first v p i c (moves-first i f))
+      go (badCover q c a l e) = e ∙ sym (priority-lowest v p q c (moves-formed a) (moves-lowest q l))
+      go (badAsked u o e) = e ∙ sym (asked-last v p (moves-usable u) o)
+      go (mapped u r o e) =
+          let g = usable-gives v p (moves-usable u) r in
+          let k = g .one .alone (o .row) (o .there) (moves-in p (o .row) (o .there) (o .inside)) in
+          e ∙ ap (λ (w : PriorityRow). Reservation (w .reservation)) (same (o .row) (o .there))
+          ∙ ap (λ (i : ℕ). Reservation (rowAt v i .reservation)) k ∙ sym (g .answer)

@@ -34,12 +34,17 @@ impl Table {
     /// reservation; `#` begins a comment, empty lines count for nothing.
     pub fn read(text: &[u8]) -> Result<Table, Wrong> {
         let (mut rows, mut lines, mut problems) = (Vec::new(), Vec::new(), Vec::new());
+        let mut count = 0;
         for (line, bytes) in (1u64..).zip(without_mark(text).split(|&b| b == b'\n')) {
             match row(bytes) {
                 Ok(None) => {}
                 Ok(Some(row)) => {
-                    rows.push(row);
-                    lines.push(line);
+                    count += 1;
+                    // One row too many tells as much as all of them.
+                    if count <= PRIORITY_ROWS + 1 {
+                        rows.push(row);
+                        lines.push(line);
+                    }
                 }
                 Err(message) => problems.push(Problem { line, message }),
             }
@@ -52,7 +57,7 @@ impl Table {
         }
         match PriorityTable::new(&rows) {
             Ok(table) => Ok(Table { table, lines }),
-            Err(error) => Err(wrong(error, &rows, &lines)),
+            Err(error) => Err(wrong(error, &rows, count, &lines)),
         }
     }
 
@@ -97,7 +102,13 @@ fn row(bytes: &[u8]) -> Result<Option<PriorityRow>, String> {
     if std::str::from_utf8(bytes).is_err() {
         return Err("this is not text in UTF-8".into());
     }
-    let mut words = words_of(bytes);
+    let line = bytes.strip_suffix(b"\r").unwrap_or(bytes);
+    if line.contains(&b'\r') {
+        return Err(
+            "a carriage return within the line; it may stand at the line's end alone".into(),
+        );
+    }
+    let mut words = words_of(line);
     let Some(first) = words.next() else {
         return Ok(None);
     };
@@ -128,10 +139,10 @@ fn holding<'t>(
 }
 
 /// What the library refuses, with its line and in words.
-fn wrong(error: TableError, rows: &[PriorityRow], lines: &[u64]) -> Wrong {
+fn wrong(error: TableError, rows: &[PriorityRow], count: usize, lines: &[u64]) -> Wrong {
     let most = PRIORITY_ROWS;
     let (line, words) = match error {
-        TableError::Count(count) => match lines.get(most) {
+        TableError::Count(_) => match lines.get(most) {
             Some(&line) => {
                 let words = format!("row {} of {count}; a table has 1 to {most} rows", most + 1);
                 (Some(line), words)
@@ -240,6 +251,17 @@ mod tests {
             ]
         );
         assert_eq!(told("x\n".repeat(30)).len(), PROBLEMS);
+        // A line that only some systems end here would be lost in the comment.
+        let lost = "a carriage return within the line; it may stand at the line's end alone";
+        let text = "1 10 5\n# all\r8 10 40\r\n1\r10\r5\n";
+        assert_eq!(told(text), [format!("2 {lost}"), format!("3 {lost}")]);
+    }
+
+    #[test]
+    fn of_rows_too_many_the_first_is_told() {
+        let text = "# none is used\n".to_string() + &"1 10 5\n".repeat(100_000);
+        let line = "12 row 11 of 100000; a table has 1 to 10 rows (refused with 4)";
+        assert_eq!(told(text), [line]);
     }
 
     #[test]
@@ -273,7 +295,7 @@ mod tests {
             let refusal = error.refusal();
             let message = format!("{} (refused with {})", refusal.meaning(), refusal.number());
             let problem = Problem { line: 3, message };
-            assert_eq!(wrong(error, &rows, &[3]), Wrong::Lines(vec![problem]));
+            assert_eq!(wrong(error, &rows, 1, &[3]), Wrong::Lines(vec![problem]));
         }
     }
 }

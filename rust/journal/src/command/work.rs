@@ -1,5 +1,6 @@
 //! What the commands do.
 
+use std::fs;
 use std::io::{self, IsTerminal};
 use std::path::Path;
 
@@ -74,6 +75,14 @@ fn write_mappings(
     bytes: &[u8],
     progress: &mut Progress,
 ) -> Result<(), Stop> {
+    // The table is the customer's only copy, as often as not.
+    let same = |path: &Path| fs::canonicalize(path).ok();
+    if let (Some(from), Some(to)) = (&job.input, &job.output) {
+        if same(from).is_some() && same(from) == same(to) {
+            let message = format!("{name}: the result would replace the table; name another file");
+            return Err(Stop::bad(message));
+        }
+    }
     let table = Table::read(bytes);
     progress.clear();
     let table = table.map_err(|wrong| match wrong {

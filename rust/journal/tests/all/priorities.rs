@@ -305,6 +305,22 @@ fn a_file_is_written_whole_or_not_at_all() {
     assert_eq!(folder.names(), ["good.txt", "old.out"]);
 }
 
+/// Also by another name of it.
+#[test]
+fn a_table_is_not_replaced_by_what_it_says() {
+    let folder = Folder::new("table-same");
+    let file = folder.file("site.txt", USABLE);
+    let link = folder.path("link.txt");
+    std::os::unix::fs::symlink(&file, &link).unwrap();
+    for (from, to) in [(&file, &file), (&link, &file), (&file, &link)] {
+        let words = "the result would replace the table; name another file";
+        let told = format!("journal: {from}: {words}\n");
+        let output = run(&[COMMAND, from, "-o", to], b"");
+        assert_eq!(all(&output), (1, String::new(), told));
+        assert_eq!(fs::read_to_string(&file).unwrap(), USABLE);
+    }
+}
+
 #[test]
 fn files_and_streams_that_fail_are_told() {
     let folder = Folder::new("table-streams");

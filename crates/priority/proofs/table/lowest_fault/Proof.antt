@@ -1,10 +1,10 @@
 -- `lowest_fault` meets its contract. The invariant: the priorities below are each in one row, and what is sought lies from here up.
 use mathlib.Core.Path.{_≡_, sym, _∙_}
-use Prim.Native.Nat.{ℕ, _+_, _-_, _≤_, _<_}
+use Prim.Native.Nat.{_-_, _≤_}
 use native.Mathlib.Omega.{arith}
 use borrow.Author.Needs.{needs}
 use lib.ListN.{take}
-use Rattle.priority.specs.Table.{wellFormedRows, rowsWith, faultFrom, reservationIn}
+use Rattle.priority.specs.Table.{rowsWith, faultFrom, reservationIn}
 use Rattle.priority.specs.Inner.{heldFrom}
 use Rattle.priority.proofs.Rows.{fault, no-fault, no-faults}
 use Rattle.priority.proofs.Held.{held-of, in-one, not-one}
