@@ -304,7 +304,7 @@ module _ (n : ℕ) (ws vs : List PriorityRow) (same : (i : ℕ) → i < n → ge
     row = o .row;
     there = o .there;
     inside = moves-in p (o .row) (o .there) (o .inside);
-    alone = λ j h k. o .alone j h (moves-back p j h k)
+    alone = λ j h k. o .alone j h (moves-back p j h k);
   }
 
   moves-bad : (p : ℕ) → InNone t p ⊎ InSeveral t p → InNone v p ⊎ InSeveral v p
@@ -318,7 +318,7 @@ module _ (n : ℕ) (ws vs : List PriorityRow) (same : (i : ℕ) → i < n → ge
         apart = a;
         there = k;
         inside = moves-in p (o .row) (omega arith) (o .inside);
-        too = moves-in p (o .other) k (o .too)
+        too = moves-in p (o .other) k (o .too);
       }
 
   moves-formed : AllFormed t → AllFormed v
@@ -330,7 +330,7 @@ module _ (n : ℕ) (ws vs : List PriorityRow) (same : (i : ℕ) → i < n → ge
       record {
         there = h;
         bad = λ k. f .bad (subst Formed (sym (same i h)) k);
-        before = λ j l. subst Formed (same j (omega arith)) (f .before j l)
+        before = λ j l. subst Formed (same j (omega arith)) (f .before j l);
       }
 
   moves-lowest : (q : ℕ) → LowestBad t q → LowestBad v q

@@ -151,11 +151,12 @@ fn odd_pieces() {
 #[test]
 fn named_pipe() {
     let folder = Folder::new("fifo");
-    let path = folder.join("journal");
-    let made = std::process::Command::new("mkfifo").arg(&path).status();
-    assert!(made.unwrap().success());
     let mut r = Rng::new(54);
-    for _ in 0..100 {
+    for round in 0..100 {
+        // A new pipe each time: a child that another test has just forked may hold the last one open for a moment more.
+        let path = folder.join(&format!("journal-{round}"));
+        let made = std::process::Command::new("mkfifo").arg(&path).status();
+        assert!(made.unwrap().success());
         let input = blocking(&mut r);
         let sorts = sorts(&input);
         let of = drawn(&mut r, &sorts);
