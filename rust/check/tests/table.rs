@@ -3,7 +3,9 @@
 use check::bytes;
 use check::compare::{to_library_line, to_library_table, to_model_table};
 use check::tables::{sorts, Sort, Tables};
-use model::random::{any_table, asked_priority, damaged_tables, usable_table, Rng};
+use model::random::{
+    all_rows, all_tables, any_table, asked_priority, damaged_tables, usable_table, Rng,
+};
 use model::table::{asked, standard, Line, Row, Table, ROWS};
 use mtr::numbers;
 
@@ -36,39 +38,6 @@ fn compared(table: &Table, priority: u64, tables: &mut Tables) -> Line {
     assert!(bytes::of(&found) == bytes::line(&wanted));
     tables.line(table, priority, wanted);
     wanted
-}
-
-/// All tables of as many rows as there are lists, row i one of the i-th. The entries past them hold one thing or
-/// another.
-fn all_tables(of: &[&[Row]], mut visit: impl FnMut(u64, &Table)) {
-    let rests = [row(0, 0, 0), row(1, 10, 7), row(u64::MAX, 0, u64::MAX)];
-    let mut at = vec![0; of.len()];
-    for turn in 0.. {
-        let mut table = Table {
-            rows: [rests[turn as usize % 3]; ROWS],
-            count: of.len() as u64,
-        };
-        for (i, rows) in of.iter().enumerate() {
-            table.rows[i] = rows[at[i]];
-        }
-        visit(turn, &table);
-        let Some(next) = (0..of.len()).find(|&i| at[i] + 1 < of[i].len()) else {
-            return;
-        };
-        at[..next].fill(0);
-        at[next] += 1;
-    }
-}
-
-/// All rows of these ends and reservations.
-fn all_rows(ends: &[u64], reservations: &[u64]) -> Vec<Row> {
-    let mut rows = Vec::new();
-    for &first in ends {
-        for &last in ends {
-            rows.extend(reservations.iter().map(|&r| row(first, last, r)));
-        }
-    }
-    rows
 }
 
 /// Asks all these tables, each for the next of the priorities 0 to 11, and a usable one for all of them and for those

@@ -154,7 +154,7 @@ fn named_pipe() {
     let mut r = Rng::new(54);
     for round in 0..100 {
         // A new pipe each time: a child that another test has just forked may hold the last one open for a moment more.
-        let path = folder.join(&format!("journal-{round}"));
+        let path = folder.join(format!("journal-{round}"));
         let made = std::process::Command::new("mkfifo").arg(&path).status();
         assert!(made.unwrap().success());
         let input = blocking(&mut r);

@@ -5,7 +5,9 @@ mod common;
 use std::collections::BTreeMap;
 
 use common::{line, row, table_with, BEYOND};
-use model::random::{any_table, asked_priority, damaged_tables, usable_table, Rng};
+use model::random::{
+    all_rows, all_tables, any_table, asked_priority, damaged_tables, usable_table, Rng,
+};
 use model::table::{asked, given, Line, Row, Table};
 
 /// The answer once more, by marks: how many rows are at each priority, and the
@@ -109,37 +111,10 @@ fn check(table: &Table, priority: u64, counts: &mut Counts) -> Line {
     line
 }
 
-/// All tables of as many rows, row i one of the i-th list's. The entries past
-/// them hold one thing or another.
-fn all_tables(of: &[Vec<Row>], mut visit: impl FnMut(&Table)) {
-    let rests = [row(0, 0, 0), row(1, 10, 7), row(u64::MAX, 0, u64::MAX)];
-    let mut at = vec![0; of.len()];
-    for turn in 0.. {
-        let rows: Vec<Row> = of.iter().zip(&at).map(|(rows, &i)| rows[i]).collect();
-        visit(&table_with(&rows, rests[turn % 3]));
-        let Some(next) = (0..of.len()).find(|&i| at[i] + 1 < of[i].len()) else {
-            return;
-        };
-        at[..next].fill(0);
-        at[next] += 1;
-    }
-}
-
-/// All rows of these ends and reservations.
-fn all_rows(ends: &[u64], reservations: &[u64]) -> Vec<Row> {
-    let mut rows = Vec::new();
-    for &first in ends {
-        for &last in ends {
-            rows.extend(reservations.iter().map(|&r| row(first, last, r)));
-        }
-    }
-    rows
-}
-
 /// Asks all these tables, a usable one for every priority. How many are usable.
-fn usable_among(of: &[Vec<Row>], counts: &mut Counts) -> u32 {
+fn usable_among(of: &[&[Row]], counts: &mut Counts) -> u32 {
     let mut usable = 0;
-    all_tables(of, |table| {
+    all_tables(of, |_, table| {
         check(table, 0, counts);
         let line = check(table, 5, counts);
         if line.answer == 0 {
@@ -159,9 +134,9 @@ fn all_of_two_rows() {
     let rows = all_rows(&[0, 1, 2, 5, 6, 9, 10, 11], &[0, 1, 7, 1000, 1001]);
     let mut counts = Counts::new();
     // 1 to 10 with three reservations.
-    assert_eq!(usable_among(std::slice::from_ref(&rows), &mut counts), 3);
+    assert_eq!(usable_among(&[&rows], &mut counts), 3);
     // Cut after 1, 5 or 9, either row first, with nine pairs of reservations.
-    assert_eq!(usable_among(&[rows.clone(), rows], &mut counts), 3 * 2 * 9);
+    assert_eq!(usable_among(&[&rows, &rows], &mut counts), 3 * 2 * 9);
     println!("{counts:?}");
     assert!(counts.values().all(|&n| n >= 30), "{counts:?}");
     // 22 for three causes with two rows; 23 for a gap at 1, 2, 3, 6, 7 and
@@ -173,7 +148,8 @@ fn all_of_two_rows() {
 #[test]
 fn all_ends_of_three_rows() {
     let ends: Vec<u64> = (0..=11).collect();
-    let of = [7, 7, 8].map(|reservation| all_rows(&ends, &[reservation]));
+    let lists = [7, 7, 8].map(|reservation| all_rows(&ends, &[reservation]));
+    let of: Vec<&[Row]> = lists.iter().map(|rows| &rows[..]).collect();
     let mut counts = Counts::new();
     assert_eq!(usable_among(&of[..1], &mut counts), 1);
     // One cut of nine; two of them; the rows in any order.
@@ -190,7 +166,7 @@ fn all_ends_of_three_rows() {
 fn all_reservations_of_three_rows() {
     let rows = all_rows(&[1, 3, 4, 7, 8, 10], &[1, 1000, 1001]);
     let mut counts = Counts::new();
-    let of = [rows.clone(), rows.clone(), rows];
+    let of = [&rows[..]; 3];
     // 1 to 3, 4 to 7, 8 to 10 in any order, two reservations each.
     assert_eq!(usable_among(&of, &mut counts), 6 * 8);
     println!("{counts:?}");

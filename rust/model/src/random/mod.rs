@@ -14,7 +14,7 @@ pub use broken::broken_states;
 pub use calls::call;
 pub use journals::{any_record, journal};
 pub use states::{hostile_state, sound_state};
-pub use tables::{any_table, asked_priority, damaged_tables, usable_table};
+pub use tables::{all_rows, all_tables, any_table, asked_priority, damaged_tables, usable_table};
 
 /// SplitMix64.
 #[derive(Clone, Debug)]

@@ -357,3 +357,45 @@ fn gap(r: &mut Rng, rows: &mut Vec<Row>) {
         row.last -= 1;
     }
 }
+
+/// All rows of these ends and reservations.
+pub fn all_rows(ends: &[u64], reservations: &[u64]) -> Vec<Row> {
+    let mut rows = Vec::new();
+    for &first in ends {
+        for &last in ends {
+            rows.extend(reservations.iter().map(|&reservation| Row {
+                first,
+                last,
+                reservation,
+            }));
+        }
+    }
+    rows
+}
+
+/// Visits all tables of as many rows as there are lists, row i one of the i-th,
+/// each with its turn. The entries past them hold one thing or another.
+pub fn all_tables(of: &[&[Row]], mut visit: impl FnMut(u64, &Table)) {
+    let rests = [(0, 0, 0), (1, 10, 7), (u64::MAX, 0, u64::MAX)];
+    let rests = rests.map(|(first, last, reservation)| Row {
+        first,
+        last,
+        reservation,
+    });
+    let mut at = vec![0; of.len()];
+    for turn in 0.. {
+        let mut table = Table {
+            rows: [rests[turn as usize % 3]; ROWS],
+            count: of.len() as u64,
+        };
+        for (i, rows) in of.iter().enumerate() {
+            table.rows[i] = rows[at[i]];
+        }
+        visit(turn, &table);
+        let Some(next) = (0..of.len()).find(|&i| at[i] + 1 < of[i].len()) else {
+            return;
+        };
+        at[..next].fill(0);
+        at[next] += 1;
+    }
+}
