@@ -8,18 +8,7 @@ use Rattle.base.specs.Checks.{within}
 use Rattle.priority.specs.declared.table.PriorityTable.{PriorityTable}
 use Rattle.priority.specs.declared.table.Lookup.the-variants.{Reservation, Refused}
 use Rattle.priority.specs.Table.{wellFormedRows, lowestFault, reservationIn, rowsOf, lookup}
-
-pub inside : (low high n : ℕ) → low ≤ n → n ≤ high → within low high n ≡ true
-unfolding within
-inside low high n l h = rw (le-leb low n l, le-leb n high h)
-
-pub below : (low high n : ℕ) → n < low → within low high n ≡ false
-unfolding within
-below low high n l = rw (lt-leb low n l)
-
-pub above : (low high n : ℕ) → low ≤ n → high < n → within low high n ≡ false
-unfolding within
-above low high n l h = rw (le-leb low n l, lt-leb n high h)
+use Rattle.priority.proofs.Formed.{inside, below, above}
 
 module _ (t : PriorityTable) (p : ℕ) where
   pub too-few : t .count < 1 → lookup t p ≡ Refused 4 0

@@ -14,8 +14,8 @@ use Rattle.priority.specs.Priority.{mappingOf}
 use Rattle.priority.specs.Table.{wellFormed, standsIn, wellFormedRows, rowsWith, faultFrom, lowestFault, reservationIn}
 use Rattle.priority.specs.Table.{rowsOf, lookup, standardTable}
 use Rattle.priority.specs.Usable.{Usable, untabled}
-use Rattle.priority.proofs.Lookup.{inside, below, above, given}
-use Rattle.priority.proofs.Formed.{upto, outside-low, outside-high}
+use Rattle.priority.proofs.Formed.{inside, below, above, upto, outside-low, outside-high}
+use Rattle.priority.proofs.Lookup.{given}
 use Rattle.priority.proofs.Usable.{asked-last, reservation-usable}
 
 -- every row is well formed, every priority is in one row

@@ -1,10 +1,13 @@
 -- `reservation_under` meets its contract: each check is that of the definition, in its order.
-use mathlib.Core.Path.{sym, ap, _∙_}
+use mathlib.Core.Path.{_≡_, sym, ap, _∙_}
 use Prim.Native.Nat.{ℕ, _≤_, _<_}
 use native.Mathlib.Omega.{arith}
 use borrow.Author.Needs.{needs}
+use Rattle.priority.specs.declared.table.PriorityTable.{PriorityTable}
 use Rattle.priority.specs.declared.table.Lookup.the-variants.{Reservation, Refused}
-use Rattle.priority.specs.Table.{wellFormedRows, lowestFault, rowsOf}
+use Rattle.priority.specs.Table.{wellFormedRows, lowestFault, reservationIn, rowsOf, lookup}
+use Rattle.priority.specs.Inner.{heldFrom}
+use Rattle.priority.specs.Usable.{Within}
 use Rattle.priority.proofs.Lookup.{too-few, too-many, bad-row, bad-cover, asked-below, asked-above, given}
 use Rattle.priority.proofs.Held.{held-one}
 use Rattle.priority.proofs.table.reservation_under.Statement.{statement}
@@ -62,26 +65,39 @@ returns-6 c =
     ∙ sym (asked-above (s .table) (s .priority) (omega arith) (omega arith) (omega (arith, w .well-formed-rows .ensures))
     (omega (arith, f .lowest-fault .ensures)) (omega arith))
 
+-- the table is found usable before its rows are asked
+module _ (c : tie.After-held-in) where
+  abbrev f : tie.After-lowest-fault
+  f = c .before .before .before .before
+
+  abbrev w : tie.After-well-formed-rows
+  w = rows-passed f
+
+  abbrev t : PriorityTable
+  t = start w .args .table
+
+  abbrev p : ℕ
+  p = start w .args .priority
+
+  formed : t .count ≤ wellFormedRows (rowsOf t)
+  formed = omega (arith, w .well-formed-rows .ensures)
+
+  covered : 10 < lowestFault (rowsOf t)
+  covered = omega (arith, f .lowest-fault .ensures)
+
+  one : (heldFrom 0 p (rowsOf t) ≡ reservationIn p (rowsOf t)) × Within 1 1000 (heldFrom 0 p (rowsOf t))
+  one = held-one p (t .rows) (t .count) formed covered (omega arith) (omega arith)
+
+  found : Reservation (c .held-in .result) ≡ lookup t p
+  found =
+      ap (λ (n : ℕ). Reservation n) (c .held-in .ensures ∙ one .0)
+      ∙ sym (given t p (omega arith) (omega arith) formed covered (omega arith) (omega arith))
+
 returns-7 : tie.Need-returns-7
-returns-7 c =
-    let f = c .before .before .before .before in
-    let w = rows-passed f in
-    let s = start w .args in
-    let good : s .table .count ≤ wellFormedRows (rowsOf (s .table)) = omega (arith, w .well-formed-rows .ensures) in
-    let full : 10 < lowestFault (rowsOf (s .table)) = omega (arith, f .lowest-fault .ensures) in
-    let one = held-one (s .priority) (s .table .rows) (s .table .count) good full (omega arith) (omega arith) in
-    ap (λ (n : ℕ). Reservation n) (c .held-in .ensures ∙ one .0)
-    ∙ sym (given (s .table) (s .priority) (omega arith) (omega arith) good full (omega arith) (omega arith))
+returns-7 c = found c
 
 cast-reservation : tie.Need-cast-reservation
-cast-reservation c =
-    let f = c .before .before .before .before in
-    let w = rows-passed f in
-    let s = start w .args in
-    let good : s .table .count ≤ wellFormedRows (rowsOf (s .table)) = omega (arith, w .well-formed-rows .ensures) in
-    let full : 10 < lowestFault (rowsOf (s .table)) = omega (arith, f .lowest-fault .ensures) in
-    let one = held-one (s .priority) (s .table .rows) (s .table .count) good full (omega arith) (omega arith) in
-    record { fits = omega (arith, c .held-in .ensures, one .1) }
+cast-reservation c = record { fits = omega (arith, c .held-in .ensures, one c .1) }
 
 refused-requires : tie.Need-refused-requires
 refused-requires c κs = search needs
