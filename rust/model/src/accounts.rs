@@ -15,10 +15,10 @@ pub struct Entry {
 }
 
 /// Lag of an admitted thread of a sound state: at most 1000 times the largest
-/// meter on either side of 0.
+/// meter on either side of 0; 0 for a best-effort one.
 #[inline]
 fn lag_of(t: &Thread, meter: u64) -> i64 {
-    if t.status == BLOCKED {
+    if t.status == BLOCKED || t.reservation == 0 {
         return 0;
     }
     let due = t.reservation as u64 * (meter - t.anchor);
@@ -63,7 +63,7 @@ impl Scheduler {
     }
 
     /// f × (meter since the anchor) − 1000 × (ticks since the anchor), and 0
-    /// while blocked. 16 on an unsound state, 7 where not admitted.
+    /// while blocked or for a best-effort thread. 16 on an unsound state, 7 where not admitted.
     pub fn lag(&self, number: u64) -> Result<i64, u32> {
         self.account(number).map(|t| lag_of(t, self.meter))
     }
@@ -76,12 +76,13 @@ impl Scheduler {
     }
 
     /// Fills the table with every admitted thread, largest lag first, equal
-    /// lags by lower number. Records past the last stay as they were.
+    /// lags by lower number. A best-effort thread has no allotment: 0. Records past
+    /// the last stay as they were.
     pub fn roster(&self, table: &mut [Entry]) -> u32 {
         if !self.sound() {
             return answer::UNSOUND;
         }
-        let count = self.count as usize;
+        let count = self.threads.iter().filter(|t| t.status != FREE).count();
         if table.len() < count {
             return answer::LENGTH;
         }
@@ -99,7 +100,7 @@ impl Scheduler {
                 } else {
                     (t.status == BLOCKED) as u32
                 },
-                allotment: t.allotment,
+                allotment: if t.is_reserved() { t.allotment } else { 0 },
                 share: share_of(t, self.meter) as u32,
                 lag: lag_of(t, self.meter),
             };

@@ -26,6 +26,12 @@ pub fn admit(mut s: Scheduler, number: u64, group: u64, reservation: u64) -> (u3
 }
 
 #[inline(never)]
+pub fn admit_best_effort(mut s: Scheduler, number: u64, weight: u64) -> (u32, Scheduler) {
+    let answer = s.admit_best_effort(number, weight);
+    (answer, s)
+}
+
+#[inline(never)]
 pub fn remove(mut s: Scheduler, number: u64) -> (u32, Scheduler) {
     let answer = s.remove(number);
     (answer, s)

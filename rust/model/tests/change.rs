@@ -402,13 +402,13 @@ fn the_record() {
             assert_eq!(read_block(&area, 0), Err(19), "byte {place}");
         }
     }
-    // Served on a state it is the call; the next kind is none.
+    // Served on a state it is the call; a kind that is no call's is none.
     let mut s = with(10, 1000, 0, &[1; 7]);
     let mut other = s;
     assert_eq!(run(&mut s, &rec), Reply::default());
     assert_eq!(apply(&mut other, call), Reply::default());
     assert_eq!((s.threads[7].reservation, s), (0x0102, other));
-    let unknown = Record { kind: 10, ..rec };
+    let unknown = Record { kind: 11, ..rec };
     assert_eq!(run(&mut s, &unknown), Reply::plain(19));
     assert_eq!(recorded(&unknown), None);
     assert_eq!(s, other);

@@ -108,11 +108,11 @@ fn the_edges() {
 
 #[test]
 fn the_layout() {
-    assert_eq!(std::mem::size_of::<Thread>(), 40);
+    assert_eq!(std::mem::size_of::<Thread>(), 48);
     assert_eq!(std::mem::size_of::<Group>(), 4);
     assert_eq!(
         std::mem::size_of::<Scheduler>(),
-        64 * 40 + 64 + 16 * 4 + 8 + 8 + 4 + 4
+        64 * 48 + 64 + 16 * 4 + 8 + 8 + 8 + 4 + 4
     );
     assert_eq!(std::mem::size_of::<Entry>(), 24);
     assert_eq!(std::mem::size_of::<Record>(), 12);
@@ -120,7 +120,7 @@ fn the_layout() {
     assert!(s.sound());
     assert_eq!(s.threads, [Thread::UNUSED; 64]);
     assert_eq!(s.order, [0; 64]);
-    assert_eq!((s.meter, s.count, s.running), (0, 0, NONE));
+    assert_eq!((s.meter, s.time, s.count, s.running), (0, 0, 0, NONE));
     assert_eq!(
         Scheduler::default(),
         Scheduler::start(100, 20_000, 0).unwrap()
@@ -323,7 +323,8 @@ fn block_forms() {
         (7, [false, false, true, false, true, false]),
         (8, [false, false, false, true, true, true]),
         (9, [true, false, false, true, false, false]),
-        (10, [false; 6]),
+        (10, [true, false, false, true, false, false]),
+        (11, [false; 6]),
         (255, [false; 6]),
     ];
     for (kind, used) in used {

@@ -268,7 +268,7 @@ fn the_start_record() {
 /// Bytes 10 and 11 are a start's alone, 12 to 15 nobody's.
 #[test]
 fn bytes_that_must_be_zero() {
-    for kind in 1..=9 {
+    for kind in 1..=10 {
         let rec = Record {
             kind,
             ..Record::default()

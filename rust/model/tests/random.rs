@@ -8,7 +8,7 @@ use model::by_value;
 use model::calls::{apply, Call};
 use model::random::{any_record, broken_states, call, hostile_state, journal, sound_state, Rng};
 use model::replay::{replay, replay_from, replay_from_with, replay_with};
-use model::rule::{Reply, Scheduler, METER_MAX, NONE};
+use model::rule::{Reply, Scheduler, BLOCKED, METER_MAX, NONE, RUNNABLE};
 
 mod common;
 mod plain;
@@ -39,6 +39,7 @@ fn handed_over(s: Scheduler, call: Call) -> (Reply, Scheduler) {
             number,
             reservation,
         } => by_value::change(s, number, reservation),
+        Call::AdmitBestEffort { number, weight } => by_value::admit_best_effort(s, number, weight),
     };
     (Reply::plain(answer), s)
 }
@@ -48,6 +49,10 @@ fn sound_states_are_sound_and_varied() {
     let mut r = Rng::new(2);
     let mut counts = [0u32; 65];
     let (mut running, mut last, mut deep) = (0, 0, 0);
+    // Of best-effort threads: runnable ones at the virtual time, between, at the
+    // bound of their weight, at that of the meter; blocked ones below the virtual
+    // time; running; equal tags; such threads alone; states in which one is next.
+    let mut tags = [0u32; 9];
     // O by what it is: 0, between, m − 1 above 0.
     let mut limits = [0u32; 3];
     for _ in 0..20_000 {
@@ -60,7 +65,35 @@ fn sound_states_are_sound_and_varied() {
         deep += (s.groups[15].opened == 1 && s.groups[15].parent == 14) as u32;
         let (m, o) = (s.settings.thousandth, s.settings.overrun);
         limits[(o > 0) as usize + (o > 0 && o == m - 1) as usize] += 1;
+        let others: Vec<usize> = (0..64).filter(|&n| s.threads[n].is_best_effort()).collect();
+        for &n in &others {
+            let t = &s.threads[n];
+            let reach = (s.settings.interval as u64 + o as u64) * (720_720 / t.weight());
+            let (most, full) = (s.time + reach, 720_720 * s.meter);
+            let waits = t.status == RUNNABLE && s.running != n as u32;
+            let same = others
+                .iter()
+                .filter(|&&k| s.threads[k].tag == t.tag)
+                .count();
+            let marks = [
+                waits && t.tag == s.time,
+                waits && t.tag > s.time && t.tag < most.min(full),
+                waits && t.tag == most && most < full,
+                waits && t.tag == full && full < most,
+                t.status == BLOCKED && t.tag < s.time,
+                s.running == n as u32,
+                waits && same > 1,
+            ];
+            for (n, mark) in tags.iter_mut().zip(marks) {
+                *n += mark as u32;
+            }
+        }
+        tags[7] += (s.count == 0 && !others.is_empty()) as u32;
+        let reply = s.clone().dispatch();
+        tags[8] += (reply.answer == 0 && others.contains(&(reply.thread as usize))) as u32;
     }
+    println!("{tags:?}");
+    assert!(tags.iter().all(|&n| n > 500), "{tags:?}");
     assert!(limits.iter().all(|&n| n > 1000), "{limits:?}");
     assert!(counts.iter().all(|&c| c > 0), "{counts:?}");
     assert!(running > 1000 && last > 50 && deep > 50);
@@ -104,7 +137,7 @@ fn broken_states_are_unsound() {
             let fails = if one.len() < other.len() { one } else { other };
             let with: &[&str] = match name {
                 "m is 0" => &["O"],
-                "reservation is 0" => &["allotment 1", "allotment full"],
+                "tag of the running thread below the virtual time" => &["tag of a runnable"],
                 "reservation above 1000" | "ceiling above 1000" => &["room"],
                 _ => &[],
             };
@@ -121,7 +154,7 @@ fn broken_states_are_unsound() {
         assert_eq!(names.len(), all);
     }
     // Every clause of `failing` occurs.
-    assert_eq!(broken.len(), 26, "{broken:?}");
+    assert_eq!(broken.len(), 32, "{broken:?}");
     let s = sound_state(&mut r);
     assert!(failing(&s, true).is_empty());
 }
@@ -154,11 +187,13 @@ fn calls_on_sound_states() {
                 Call::Dispatch => 6,
                 Call::Report { .. } => 7,
                 Call::Change { .. } => 9,
+                Call::AdmitBestEffort { .. } => 10,
             };
             *answers.entry((kind, reply.answer)).or_default() += 1;
             if let (Call::Report { reason, used }, 0) = (c, reply.answer) {
                 let n = before.running as usize;
-                if used as i128 > slice(&before, n) {
+                let reserved = before.threads[n].is_reserved();
+                if reserved && used as i128 > slice(&before, n) {
                     let debt = used > before.threads[n].allotment as u64;
                     late[reason as usize][debt as usize] += 1;
                 }
@@ -166,7 +201,7 @@ fn calls_on_sound_states() {
         }
     }
     assert!(late.iter().flatten().all(|&n| n >= 20), "{late:?}");
-    let want: [(u8, &[u32]); 8] = [
+    let want: [(u8, &[u32]); 9] = [
         (1, &[0, 2, 3, 4, 5]),
         (2, &[0, 2, 6]),
         (3, &[0, 2, 4, 5, 7, 8]),
@@ -175,6 +210,7 @@ fn calls_on_sound_states() {
         (6, &[0, 12, 15]),
         (7, &[0, 11, 13, 14]),
         (9, &[0, 4, 5, 7, 9]),
+        (10, &[0, 4, 7, 8]),
     ];
     for (kind, list) in want {
         let seen: Vec<u32> = answers
@@ -195,7 +231,7 @@ fn changes_beside_admissions() {
     // below; blocked; with the old reservation not counted they would be refused;
     // with less free in group 0 or another one above.
     let mut seen = [0u32; 9];
-    for _ in 0..20_000 {
+    for _ in 0..30_000 {
         let mut s = sound_state(&mut r);
         for _ in 0..8 {
             let c = call(&mut r, &s);
@@ -209,13 +245,17 @@ fn changes_beside_admissions() {
                 continue;
             };
             let mut other = before;
+            if number < 64 && before.threads[number as usize].is_best_effort() {
+                assert_eq!((answer, s), (7, before));
+                continue;
+            }
             let removed = other.remove(number);
             if removed != 0 {
                 assert_eq!(answer, removed);
                 continue;
             }
             let old = before.threads[number as usize];
-            let again = other.admit(number, old.group as u64, reservation);
+            let again = other.admit(number, old.group() as u64, reservation);
             assert_eq!(answer, again);
             if answer != 0 {
                 continue;
@@ -226,14 +266,11 @@ fn changes_beside_admissions() {
             assert_eq!(new.allotment, old.allotment.min(fresh.allotment));
             assert_eq!((new.anchor, new.since), (fresh.anchor, fresh.since));
             assert_eq!((new.admission, new.ticks), (old.admission, old.ticks));
-            assert_eq!((new.status, new.group), (old.status, old.group));
+            assert_eq!((new.status, new.group()), (old.status, old.group()));
             assert_eq!(s.lag(number), Ok(0));
             assert_eq!(s.share(number), before.share(number));
             let (amount, f) = (reservation, old.reservation as u64);
-            let free = |g: u8| {
-                let g = g as usize;
-                before.groups[g].ceiling as u64 - before.taken(g) as u64
-            };
+            let free = |g: usize| before.groups[g].ceiling as u64 - before.taken(g) as u64;
             let marks = [
                 amount > f,
                 amount == f,
@@ -242,8 +279,8 @@ fn changes_beside_admissions() {
                 old.allotment == fresh.allotment && amount != f,
                 old.allotment < fresh.allotment,
                 old.status == 2,
-                amount > free(old.group),
-                old.group > 0 && amount > free(before.groups[old.group as usize].parent) + f,
+                amount > free(old.group()),
+                old.group() > 0 && amount > free(before.groups[old.group()].parent as usize) + f,
             ];
             for (n, mark) in seen.iter_mut().zip(marks) {
                 *n += mark as u32;
@@ -261,10 +298,18 @@ fn reports_on_time() {
     for _ in 0..6_000 {
         let mut s = sound_state(&mut r);
         s.settings.overrun = 0;
+        // A tag may be beyond its reach now.
+        if !s.sound() {
+            continue;
+        }
         for _ in 0..12 {
             let c = call(&mut r, &s);
             let before = s;
             let reply = apply(&mut s, c);
+            let other = before.threads.get(before.running as usize);
+            if other.is_some_and(|t| t.is_best_effort()) {
+                continue;
+            }
             if let Call::Report { reason, used } = c {
                 assert_eq!((reply.answer, s), report_on_time(&before, reason, used));
                 *answers.entry(reply.answer).or_default() += 1;
@@ -275,15 +320,15 @@ fn reports_on_time() {
     assert_eq!(seen, [0, 11, 13, 14]);
 }
 
-/// The journal with O taken out of every start and without changes: one of the
-/// old form.
+/// The journal with O taken out of every start, without changes and without
+/// best-effort threads: one of the old form.
 fn old_form(journal: &[u8]) -> Vec<u8> {
     let mut input = journal.to_vec();
     for (place, area) in input.chunks_mut(BLOCK).enumerate() {
         let Ok(mut records) = read_block(area, place as u32) else {
             continue;
         };
-        records.retain(|rec| rec.kind != kind::CHANGE);
+        records.retain(|rec| rec.kind < kind::CHANGE);
         for rec in &mut records {
             rec.overrun = 0;
         }
@@ -292,8 +337,8 @@ fn old_form(journal: &[u8]) -> Vec<u8> {
     input
 }
 
-/// A journal with zeros where O stands and without changes prints what it
-/// printed before there were either.
+/// A journal with zeros where O stands, without changes and without best-effort
+/// threads prints what it printed before there were any.
 #[test]
 fn old_journals() {
     let mut r = Rng::new(13);
@@ -311,7 +356,7 @@ fn old_journals() {
                     *s = after;
                     Reply::plain(answer)
                 }
-                Call::Change { .. } => unreachable!(),
+                Call::Change { .. } | Call::AdmitBestEffort { .. } => unreachable!(),
                 _ => directly(s, c),
             },
         );
@@ -339,9 +384,10 @@ fn accounts_of_sound_states() {
             share: 77,
             lag: 77,
         };
-        let mut table = vec![mark; r.range(s.count as u64, 70) as usize];
+        let count = s.threads.iter().filter(|t| t.status != 0).count();
+        let mut table = vec![mark; r.range(count as u64, 70) as usize];
         assert_eq!(s.roster(&mut table), 0);
-        let (rows, rest) = table.split_at(s.count as usize);
+        let (rows, rest) = table.split_at(count);
         assert!(rest.iter().all(|e| *e == mark));
         for pair in rows.windows(2) {
             assert!(
@@ -352,7 +398,8 @@ fn accounts_of_sound_states() {
         for row in rows {
             let n = row.number as u64;
             let t = &s.threads[n as usize];
-            let lag = if t.status == 2 {
+            let best_effort = t.reservation == 0;
+            let lag = if t.status == 2 || best_effort {
                 0
             } else {
                 t.reservation as i128 * (s.meter as i128 - t.anchor as i128)
@@ -366,7 +413,7 @@ fn accounts_of_sound_states() {
             let (shown, exact) = (share as u128 * growth as u128, 1000 * t.ticks as u128);
             places[(shown < exact) as usize + 2 * (shown > exact) as usize] += 1;
             halves += (growth > 0 && 2 * shown.abs_diff(exact) == growth as u128) as u32;
-            assert_eq!(row.allotment, t.allotment);
+            assert_eq!(row.allotment, if best_effort { 0 } else { t.allotment });
             let state = if s.running == row.number {
                 2
             } else {
@@ -380,8 +427,8 @@ fn accounts_of_sound_states() {
                 assert_eq!(s.share(n), Err(7));
             }
         }
-        if s.count > 0 {
-            let mut short = vec![mark; s.count as usize - 1];
+        if count > 0 {
+            let mut short = vec![mark; count - 1];
             assert_eq!(s.roster(&mut short), 17);
             assert!(short.iter().all(|e| *e == mark));
         }
@@ -462,8 +509,8 @@ impl Stretch {
     fn new(start: Scheduler) -> Stretch {
         Stretch {
             start,
-            first: start.threads.map(|t| t.status == 1),
-            second: start.threads.map(|t| t.status != 0),
+            first: start.threads.map(|t| t.is_reserved() && t.status == 1),
+            second: start.threads.map(|t| t.is_reserved()),
             had: [0; 64],
             w: 0,
             over: [0; 64],

@@ -4,7 +4,7 @@ mod common;
 
 use std::io::{self, Read};
 
-use common::{admit, block, dispatch, listing, remove, report, start, wake};
+use common::{admit, block, dispatch, listing, named, remove, report, start, wake};
 use model::blocks::{kind, write_block, Record, BLOCK};
 use model::calls::{record, Call};
 use model::random::{sound_state, Rng};
@@ -288,7 +288,7 @@ fn no_dispatch() {
         kind,
         ..Record::default()
     };
-    for kind in kind::OPEN..=kind::CHANGE {
+    for kind in kind::OPEN..=kind::ADMIT_BEST_EFFORT {
         let input = journal(&[&[one(kind), admit(1, 1), one(kind)]]);
         let is = kind == kind::DISPATCH;
         let want = [(0, "0 64\n"), (2, "0 1\n")];
@@ -300,7 +300,7 @@ fn no_dispatch() {
 #[test]
 fn on_sound_states() {
     let mut r = Rng::new(51);
-    let mut counts = [0u32; 4];
+    let mut counts = [0u32; 6];
     for _ in 0..20_000 {
         let s = sound_state(&mut r);
         let blocked = [(); 64].map(|()| Some(r.bits() >> r.below(64)));
@@ -308,7 +308,7 @@ fn on_sound_states() {
         let want = match reply.answer {
             12 => format!("12 {}\n", s.running),
             15 => format!("15 {}\n", s.meter),
-            answer => s.list()[..reply.before as usize].iter().fold(
+            answer => named(&s)[..reply.before as usize].iter().fold(
                 format!("{answer} {}\n", reply.thread),
                 |text, &n| {
                     assert_eq!(s.threads[n as usize].status, 2);
@@ -320,10 +320,21 @@ fn on_sound_states() {
         match reply.answer {
             12 => counts[0] += 1,
             15 => counts[1] += 1,
-            _ => counts[2 + (reply.thread == NONE) as usize] += (reply.before > 1) as u32,
+            _ => {
+                let chosen = s.threads.get(reply.thread as usize);
+                let sort = match chosen {
+                    Some(t) if t.is_best_effort() => 4,
+                    None if reply.before > s.count => 5,
+                    _ => 2 + (reply.thread == NONE) as usize,
+                };
+                counts[sort] += (reply.before > 1) as u32;
+            }
         }
     }
-    println!("12, 15, several before a thread, several at idle: {counts:?}");
+    println!(
+        "12, 15, several before a reserved thread, at idle, before a best-effort one, \
+         at idle of both kinds: {counts:?}"
+    );
     assert!(counts.iter().all(|&n| n > 200), "{counts:?}");
 }
 

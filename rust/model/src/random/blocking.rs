@@ -1,5 +1,6 @@
 //! Journals in which many threads are blocked at a dispatch.
 
+use super::calls::weight;
 use super::journals::{damage, damage_block, start_record};
 use super::states::{admitted, with_status};
 use super::{call, Rng};
@@ -16,6 +17,8 @@ struct Taste {
     /// The same of removals and of calls of any kind.
     removals: u64,
     others: u64,
+    /// Of a hundred admissions so many are of best-effort threads.
+    best_effort: u64,
 }
 
 impl Taste {
@@ -25,13 +28,21 @@ impl Taste {
             wakes: r.pick(&[0, 2, 5, 10, 20, 30]),
             removals: r.pick(&[0, 1, 2, 5, 10]),
             others: r.pick(&[0, 1, 5]),
+            best_effort: r.pick(&[0, 0, 10, 30, 60, 100]),
         }
     }
 
     fn call(&self, r: &mut Rng, s: &Scheduler) -> Call {
         let mut free = with_status(s, FREE);
         free.retain(|&n| (n as u64) < 2 * self.threads);
-        if (s.count as u64) < self.threads && r.chance(1, 2) && !free.is_empty() {
+        let used = admitted(s);
+        if (used.len() as u64) < self.threads && r.chance(1, 2) && !free.is_empty() {
+            if r.chance(self.best_effort, 100) {
+                return Call::AdmitBestEffort {
+                    number: r.pick(&free) as u64,
+                    weight: weight(r),
+                };
+            }
             return Call::Admit {
                 number: r.pick(&free) as u64,
                 group: 0,
@@ -47,9 +58,8 @@ impl Taste {
                 number: r.pick(&blocked) as u64,
             };
         }
-        let listed = admitted(s);
-        if !listed.is_empty() && r.chance(self.removals, 100) {
-            let of = if blocked.is_empty() { listed } else { blocked };
+        if !used.is_empty() && r.chance(self.removals, 100) {
+            let of = if blocked.is_empty() { used } else { blocked };
             return Call::Remove {
                 number: r.pick(&of) as u64,
             };

@@ -1,19 +1,20 @@
 //! States in which one condition of soundness is broken.
 
-use super::states::{admitted, free_in, open_groups, sound_state, with_status};
+use super::broken_tags::{best_effort_threads, tags};
+use super::states::{admitted, free_in, highest, open_groups, reserved, sound_state, with_status};
 use super::Rng;
 use crate::rule::{Scheduler, Thread, BLOCKED, FREE, GROUPS, METER_LIMIT, METER_MAX, NONE, WHOLE};
 
 /// States with the condition that each breaks.
-type Broken = Vec<(&'static str, Scheduler)>;
+pub(super) type Broken = Vec<(&'static str, Scheduler)>;
 
 /// For each condition of soundness a state in which it is broken and the
 /// others hold.
 ///
 /// Four cannot be broken alone and are given with what they entail: an m of 0
-/// leaves no allowed O, a reservation of 0 no allowed allotment, and a
-/// reservation or ceiling above 1000 exceeds the ceiling of the group it stands
-/// in.
+/// leaves no allowed O, a reservation or ceiling above 1000 exceeds the ceiling of
+/// the group it stands in, and a running best-effort thread's tag below the virtual
+/// time is one of a runnable thread.
 pub fn broken_states(r: &mut Rng) -> Vec<(&'static str, Scheduler)> {
     let mut out = Vec::new();
     settings(r, &mut out);
@@ -26,11 +27,13 @@ pub fn broken_states(r: &mut Rng) -> Vec<(&'static str, Scheduler)> {
     threads(r, &mut out);
     list(r, &mut out);
     accounts(r, &mut out);
+    best_effort_threads(r, &mut out);
+    tags(r, &mut out);
     out
 }
 
 /// A sound state of a sort.
-fn such(r: &mut Rng, wanted: impl Fn(&Scheduler) -> bool) -> Scheduler {
+pub(super) fn such(r: &mut Rng, wanted: impl Fn(&Scheduler) -> bool) -> Scheduler {
     loop {
         let s = sound_state(r);
         if wanted(&s) {
@@ -39,16 +42,17 @@ fn such(r: &mut Rng, wanted: impl Fn(&Scheduler) -> bool) -> Scheduler {
     }
 }
 
-fn low(s: &Scheduler) -> bool {
+pub(super) fn low(s: &Scheduler) -> bool {
     s.meter < METER_LIMIT
 }
 
-fn some(s: &Scheduler) -> bool {
+pub(super) fn some(s: &Scheduler) -> bool {
     s.count > 0
 }
 
-fn room(s: &Scheduler) -> bool {
-    s.count < 64
+/// A number is free.
+pub(super) fn room(s: &Scheduler) -> bool {
+    !with_status(s, FREE).is_empty()
 }
 
 /// Open groups other than 0.
@@ -75,6 +79,11 @@ fn settings(r: &mut Rng, out: &mut Broken) {
     out.push(("m above 1000", s));
     let mut s = such(r, |_| true);
     s.settings.interval = 0;
+    for n in 0..s.threads.len() {
+        if s.threads[n].is_best_effort() {
+            s.threads[n].tag = s.threads[n].tag.min(highest(&s, &s.threads[n]));
+        }
+    }
     out.push(("P is 0", s));
     let mut s = such(r, |_| true);
     s.settings.interval = r.edgy(1_000_001, u32::MAX as u64) as u32;
@@ -106,14 +115,18 @@ fn running(r: &mut Rng, out: &mut Broken) {
     s.running = r.pick(&with_status(&s, FREE)) as u32;
     out.push(("running a free entry", s));
     let mut s = such(r, |s| low(s) && !with_status(s, BLOCKED).is_empty());
-    s.running = r.pick(&with_status(&s, BLOCKED)) as u32;
+    let n = r.pick(&with_status(&s, BLOCKED));
+    s.running = n as u32;
+    if s.threads[n].is_best_effort() {
+        s.threads[n].tag = s.time;
+    }
     out.push(("running a blocked thread", s));
 }
 
 /// Status and opened of no meaning.
 fn meanings(r: &mut Rng, out: &mut Broken) {
-    let mut s = such(r, |s| admitted(s).iter().any(|&n| n as u32 != s.running));
-    let others: Vec<usize> = admitted(&s)
+    let mut s = such(r, |s| reserved(s).iter().any(|&n| n as u32 != s.running));
+    let others: Vec<usize> = reserved(&s)
         .into_iter()
         .filter(|&n| n as u32 != s.running)
         .collect();
@@ -209,11 +222,10 @@ fn tree(r: &mut Rng, out: &mut Broken) {
 /// Room in a group.
 fn rooms(r: &mut Rng, out: &mut Broken) {
     let raise_thread = |s: &Scheduler, root: bool| -> Vec<usize> {
-        let mut numbers = admitted(s);
+        let mut numbers = reserved(s);
         numbers.retain(|&n| {
             let t = &s.threads[n];
-            (t.group == 0) == root
-                && t.reservation as u64 + free_in(s, t.group as usize) < WHOLE as u64
+            (t.group() == 0) == root && t.reservation as u64 + free_in(s, t.group()) < WHOLE as u64
         });
         numbers
     };
@@ -223,7 +235,7 @@ fn rooms(r: &mut Rng, out: &mut Broken) {
     ] {
         let mut s = such(r, |s| !raise_thread(s, root).is_empty());
         let n = r.pick(&raise_thread(&s, root));
-        s.threads[n].reservation += free_in(&s, s.threads[n].group as usize) as u16 + 1;
+        s.threads[n].reservation += free_in(&s, s.threads[n].group()) as u16 + 1;
         out.push((name, s));
     }
     let raise_child = move |s: &Scheduler, root: bool| -> Vec<usize> {
@@ -245,39 +257,34 @@ fn rooms(r: &mut Rng, out: &mut Broken) {
     }
 }
 
-/// Fields of a thread.
+/// Fields of a reserved thread.
 fn threads(r: &mut Rng, out: &mut Broken) {
     let mut s = such(r, some);
-    let n = r.pick(&admitted(&s));
-    s.threads[n].reservation = 0;
-    s.threads[n].allotment = r.below(2) as i32;
-    out.push(("reservation is 0", s));
-    let mut s = such(r, some);
-    let n = r.pick(&admitted(&s));
+    let n = r.pick(&reserved(&s));
     s.threads[n].reservation = r.edgy(1001, 65_535) as u16;
     out.push(("reservation above 1000", s));
     let mut s = such(r, |s| some(s) && open_groups(s).len() < GROUPS);
-    let n = r.pick(&admitted(&s));
-    s.threads[n].group = r.pick(&shut_groups(&s)) as u8;
+    let n = r.pick(&reserved(&s));
+    s.threads[n].group_or_weight = r.pick(&shut_groups(&s)) as u8;
     out.push(("group of a thread closed", s));
     let mut s = such(r, some);
-    let n = r.pick(&admitted(&s));
-    s.threads[n].group = r.edgy(16, 255) as u8;
+    let n = r.pick(&reserved(&s));
+    s.threads[n].group_or_weight = r.edgy(16, 255) as u8;
     out.push(("group of a thread above 15", s));
     let mut s = such(r, some);
-    let n = r.pick(&admitted(&s));
+    let n = r.pick(&reserved(&s));
     s.threads[n].allotment = 0;
     out.push(("allotment is 0", s));
     let mut s = such(r, some);
-    let n = r.pick(&admitted(&s));
+    let n = r.pick(&reserved(&s));
     s.threads[n].allotment = r.edgy(0, i32::MAX as u64) as i32 - i32::MAX - 1;
     out.push(("allotment below 0", s));
     let mut s = such(r, |s| some(s) && s.settings.overrun > 0);
-    let n = r.pick(&admitted(&s));
+    let n = r.pick(&reserved(&s));
     s.threads[n].allotment = -(r.edgy(1, s.settings.overrun as u64) as i32);
     out.push(("allotment a debt within O", s));
     let mut s = such(r, some);
-    let n = r.pick(&admitted(&s));
+    let n = r.pick(&reserved(&s));
     let quantum = s.threads[n].reservation as u64 * s.settings.thousandth as u64;
     s.threads[n].allotment = r.edgy(quantum + 1, i32::MAX as u64) as i32;
     out.push(("allotment above the quantum", s));
@@ -294,7 +301,7 @@ fn list(r: &mut Rng, out: &mut Broken) {
     j += (j >= i) as usize;
     s.order[i] = s.order[j];
     out.push(("a thread twice in the list, one missing", s));
-    let mut s = such(r, |s| some(s) && room(s));
+    let mut s = such(r, |s| some(s) && s.count < 64);
     s.order[s.count as usize] = s.order[r.below(s.count as u64) as usize];
     s.count += 1;
     out.push(("a thread twice in the list, none missing", s));
@@ -319,30 +326,56 @@ fn list(r: &mut Rng, out: &mut Broken) {
     out.push(("a number above 63 in place of a thread", s));
 }
 
-/// Accounts.
+/// Accounts, of either kind of thread.
 fn accounts(r: &mut Rng, out: &mut Broken) {
     let early = |s: &Scheduler| -> Vec<usize> {
         let mut numbers = admitted(s);
         numbers.retain(|&n| s.threads[n].anchor < s.meter);
         numbers
     };
-    let mut s = such(r, |s| !early(s).is_empty());
-    let n = r.pick(&early(&s));
-    let t = &mut s.threads[n];
-    t.admission = r.edgy(t.anchor + 1, s.meter);
-    t.ticks = r.edgy(0, s.meter - t.admission);
-    out.push(("admission after the anchor", s));
-    let mut s = such(r, some);
-    let n = r.pick(&admitted(&s));
-    s.threads[n].anchor = r.edgy(s.meter + 1, u64::MAX);
-    s.threads[n].since = 0;
-    out.push(("anchor after the meter", s));
-    let mut s = such(r, some);
-    let n = r.pick(&admitted(&s));
-    s.threads[n].ticks = r.edgy(s.meter - s.threads[n].admission + 1, u64::MAX);
-    out.push(("ticks above the growth since admission", s));
-    let mut s = such(r, some);
-    let n = r.pick(&admitted(&s));
-    s.threads[n].since = r.edgy(s.meter - s.threads[n].anchor + 1, u64::MAX);
-    out.push(("ticks above the growth since the anchor", s));
+    for (kind, names) in [
+        (
+            Thread::is_reserved as fn(&Thread) -> bool,
+            [
+                "admission after the anchor",
+                "anchor after the meter",
+                "ticks above the growth since admission",
+                "ticks above the growth since the anchor",
+            ],
+        ),
+        (
+            Thread::is_best_effort,
+            [
+                "admission after the anchor, best-effort",
+                "anchor after the meter, best-effort",
+                "ticks above the growth since admission, best-effort",
+                "ticks above the growth since the anchor, best-effort",
+            ],
+        ),
+    ] {
+        let of = |s: &Scheduler, mut numbers: Vec<usize>| -> Vec<usize> {
+            numbers.retain(|&n| kind(&s.threads[n]));
+            numbers
+        };
+        let all = |s: &Scheduler| of(s, admitted(s));
+        let mut s = such(r, |s| !of(s, early(s)).is_empty());
+        let n = r.pick(&of(&s, early(&s)));
+        let t = &mut s.threads[n];
+        t.admission = r.edgy(t.anchor + 1, s.meter);
+        t.ticks = r.edgy(0, s.meter - t.admission);
+        out.push((names[0], s));
+        let mut s = such(r, |s| !all(s).is_empty());
+        let n = r.pick(&all(&s));
+        s.threads[n].anchor = r.edgy(s.meter + 1, u64::MAX);
+        s.threads[n].since = 0;
+        out.push((names[1], s));
+        let mut s = such(r, |s| !all(s).is_empty());
+        let n = r.pick(&all(&s));
+        s.threads[n].ticks = r.edgy(s.meter - s.threads[n].admission + 1, u64::MAX);
+        out.push((names[2], s));
+        let mut s = such(r, |s| !all(s).is_empty());
+        let n = r.pick(&all(&s));
+        s.threads[n].since = r.edgy(s.meter - s.threads[n].anchor + 1, u64::MAX);
+        out.push((names[3], s));
+    }
 }

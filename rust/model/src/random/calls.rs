@@ -43,8 +43,8 @@ fn new_amount(r: &mut Rng, s: &Scheduler, number: u64) -> u64 {
         return r.edgy(0, 1001);
     };
     let old = t.reservation as u64;
-    let free = match t.group {
-        g if (g as usize) < GROUPS => free_in(s, g as usize),
+    let free = match t.group() {
+        g if t.is_reserved() && g < GROUPS => free_in(s, g),
         _ => 0,
     };
     // The least reservation whose quantum the allotment fits.
@@ -80,11 +80,21 @@ pub(super) fn change_call(r: &mut Rng, s: &Scheduler) -> Call {
     }
 }
 
+/// A weight: mostly in range, else beside it or any value.
+pub(super) fn weight(r: &mut Rng) -> u64 {
+    match r.below(12) {
+        0 => edge_value(r),
+        1 => r.pick(&[0, 17, 256 + 1, 65_536 + 3]),
+        2..=4 => r.pick(&[1, 16]),
+        _ => r.range(1, 16),
+    }
+}
+
 /// A random call with plausible and bad arguments, steered by the state (of
 /// any bits) so that every answer occurs.
 pub fn call(r: &mut Rng, s: &Scheduler) -> Call {
     let runs = s.running < NONE;
-    match r.below(22) {
+    match r.below(25) {
         0 | 1 => {
             let parent = mostly(r, &open_groups(s), 16);
             let shut: Vec<usize> = (0..GROUPS)
@@ -122,6 +132,14 @@ pub fn call(r: &mut Rng, s: &Scheduler) -> Call {
             },
         },
         10 | 11 => change_call(r, s),
+        12 | 13 => Call::AdmitBestEffort {
+            number: if r.chance(1, 8) {
+                mostly(r, &admitted(s), 66)
+            } else {
+                mostly(r, &with_status(s, FREE), 66)
+            },
+            weight: weight(r),
+        },
         _ if runs == r.chance(1, 12) => Call::Dispatch,
         _ => report_call(r, s),
     }

@@ -1,6 +1,6 @@
 //! Records and journals, whole or damaged.
 
-use super::calls::change_call;
+use super::calls::{change_call, weight};
 use super::states::with_status;
 use super::{call, edge_value, Rng};
 use crate::blocks::{fields, kind, seal, write_block, Record, BLOCK, RECORD, RECORDS};
@@ -9,7 +9,7 @@ use crate::rule::{Scheduler, BLOCKED, FREE, NONE};
 
 /// A well-formed record of any kind with any values in the used fields.
 pub fn any_record(r: &mut Rng) -> Record {
-    let kind = r.range(kind::OPEN as u64, kind::CHANGE as u64) as u8;
+    let kind = r.range(kind::OPEN as u64, kind::ADMIT_BEST_EFFORT as u64) as u8;
     let (subject, group) = (edge_value(r) as u8, edge_value(r) as u8);
     let (amount, ticks) = (edge_value(r) as u16, edge_value(r) as u32);
     let overrun = edge_value(r) as u16;
@@ -73,14 +73,21 @@ fn valid_call(r: &mut Rng, s: &Scheduler) -> Call {
     }
 }
 
-/// Mostly dispatch, report with block, and bursts of wakes; at times a change.
+/// Mostly dispatch, report with block, and bursts of wakes; at times a change, and
+/// some best-effort threads.
 fn storm_call(r: &mut Rng, s: &Scheduler) -> Call {
     if s.count > 0 && r.chance(1, 16) {
         return change_call(r, s);
     }
     let blocked = with_status(s, BLOCKED);
-    if s.count < 40 && r.chance(1, 3) {
-        let free = with_status(s, FREE);
+    let free = with_status(s, FREE);
+    if free.len() > 12 && r.chance(1, 20) {
+        return Call::AdmitBestEffort {
+            number: r.pick(&free) as u64,
+            weight: weight(r),
+        };
+    }
+    if s.count < 40 && !free.is_empty() && r.chance(1, 3) {
         return Call::Admit {
             number: r.pick(&free) as u64,
             group: 0,
@@ -246,7 +253,8 @@ pub(super) fn damage_block(r: &mut Rng, block: &mut [u8; BLOCK], way: u64, place
             block[at + r.range(10, 11) as usize] = r.edgy(1, 255) as u8;
             seal(block);
         }
-        // A record, of a change if there is one, without a form under a right check.
+        // A record, of a change or of a best-effort admission if there is one,
+        // without a form under a right check.
         16 if used > 0 => {
             misform(r, &mut block[14..14 + RECORD * used]);
             seal(block);
@@ -262,17 +270,19 @@ pub(super) fn damage_block(r: &mut Rng, block: &mut [u8; BLOCK], way: u64, place
     }
 }
 
-/// Gives one record, a change if there is one, a byte other than 0 that a change
-/// leaves 0, or another kind.
+/// Gives one record, a change or an admission of a best-effort thread if there is
+/// one, a byte other than 0 that these leave 0, or another kind.
 fn misform(r: &mut Rng, records: &mut [u8]) {
     let mut parts: Vec<&mut [u8]> = records.chunks_exact_mut(RECORD).collect();
-    if parts.iter().any(|part| part[0] == kind::CHANGE) {
-        parts.retain(|part| part[0] == kind::CHANGE);
+    let one = |part: &&mut [u8]| [kind::CHANGE, kind::ADMIT_BEST_EFFORT].contains(&part[0]);
+    if parts.iter().any(one) {
+        parts.retain(one);
     }
     let i = r.below(parts.len() as u64) as usize;
     let part = &mut parts[i];
     if r.chance(1, 4) {
-        part[0] = r.pick(&[0, kind::ADMIT, kind::START, kind::CHANGE, kind::CHANGE + 1]);
+        let last = kind::ADMIT_BEST_EFFORT;
+        part[0] = r.pick(&[0, kind::ADMIT, kind::START, kind::CHANGE, last, last + 1]);
     } else {
         let unused = [2, 3, 6, 7, 8, 9, 10, 11, 12, 13, 14, 15];
         part[r.pick(&unused)] = r.edgy(1, 255) as u8;

@@ -2,18 +2,21 @@
 
 mod blocking;
 mod broken;
+mod broken_tags;
 mod calls;
+mod hostile;
 mod journals;
 mod states;
 mod tables;
 
-use crate::rule::{METER_LIMIT, METER_MAX};
+use crate::rule::{METER_LIMIT, METER_MAX, TAG_UNIT};
 
 pub use blocking::blocking;
 pub use broken::broken_states;
 pub use calls::call;
+pub use hostile::hostile_state;
 pub use journals::{any_record, journal};
-pub use states::{hostile_state, sound_state};
+pub use states::sound_state;
 pub use tables::{all_rows, all_tables, any_table, asked_priority, damaged_tables, usable_table};
 
 /// SplitMix64.
@@ -83,7 +86,7 @@ impl Rng {
 
 /// A value of any size with weight on values that matter somewhere.
 pub fn edge_value(r: &mut Rng) -> u64 {
-    const EDGES: [u64; 46] = [
+    const EDGES: [u64; 50] = [
         0,
         1,
         2,
@@ -128,6 +131,10 @@ pub fn edge_value(r: &mut Rng) -> u64 {
         METER_LIMIT,
         METER_MAX,
         METER_MAX + 1,
+        TAG_UNIT,
+        TAG_UNIT * METER_LIMIT,
+        TAG_UNIT * METER_MAX,
+        TAG_UNIT * METER_MAX + 1,
         1 << 63,
         u64::MAX,
     ];

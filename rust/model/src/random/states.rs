@@ -1,12 +1,12 @@
-//! States: sound ones, and ones of any bits.
+//! Sound states.
 
-use super::{edge_value, Rng};
+use super::Rng;
 use crate::rule::{
     Group, Scheduler, Settings, Thread, BLOCKED, FREE, GROUPS, METER_LIMIT, METER_MAX, RUNNABLE,
-    THREADS,
+    TAG_UNIT, THREADS, WEIGHT_MOST,
 };
 
-fn any_thread(r: &mut Rng) -> Thread {
+pub(super) fn any_thread(r: &mut Rng) -> Thread {
     Thread {
         admission: r.bits(),
         anchor: r.bits(),
@@ -14,12 +14,13 @@ fn any_thread(r: &mut Rng) -> Thread {
         since: r.bits(),
         allotment: r.bits() as i32,
         reservation: r.bits() as u16,
-        group: r.bits() as u8,
+        group_or_weight: r.bits() as u8,
         status: r.bits() as u8,
+        tag: r.bits(),
     }
 }
 
-fn any_group(r: &mut Rng) -> Group {
+pub(super) fn any_group(r: &mut Rng) -> Group {
     Group {
         ceiling: r.bits() as u16,
         parent: r.bits() as u8,
@@ -45,6 +46,29 @@ pub(super) fn admitted(s: &Scheduler) -> Vec<usize> {
     (0..THREADS)
         .filter(|&n| s.threads[n].status != FREE)
         .collect()
+}
+
+pub(super) fn reserved(s: &Scheduler) -> Vec<usize> {
+    (0..THREADS)
+        .filter(|&n| s.threads[n].is_reserved())
+        .collect()
+}
+
+pub(super) fn best_effort(s: &Scheduler) -> Vec<usize> {
+    (0..THREADS)
+        .filter(|&n| s.threads[n].is_best_effort())
+        .collect()
+}
+
+/// How far the tag of a best-effort thread may lie above the virtual time. Of a
+/// state of any bits it is what its settings would give.
+pub(super) fn reach(s: &Scheduler, t: &Thread) -> u64 {
+    (s.settings.interval as u64 + s.settings.overrun as u64) * t.step()
+}
+
+/// The largest tag of a best-effort thread in a state with a sound frame.
+pub(super) fn highest(s: &Scheduler, t: &Thread) -> u64 {
+    (s.time + reach(s, t)).min(TAG_UNIT * s.meter)
 }
 
 fn any_meter(r: &mut Rng) -> u64 {
@@ -79,11 +103,15 @@ pub fn sound_state(r: &mut Rng) -> Scheduler {
         s.settings.overrun = r.edgy(1, s.settings.thousandth as u64 - 1) as u16;
     }
     s.meter = any_meter(r);
+    s.time = any_time(r, s.meter);
     if r.chance(3, 4) {
         leave(r, &mut s);
     }
     open_some(r, &mut s);
     admit_some(r, &mut s);
+    if r.chance(2, 3) {
+        add_best_effort(r, &mut s);
+    }
     let len = s.count as usize;
     if r.chance(3, 4) {
         r.shuffle(&mut s.order[..len]);
@@ -100,9 +128,27 @@ pub fn sound_state(r: &mut Rng) -> Scheduler {
 
     let runnable = with_status(&s, RUNNABLE);
     if s.meter < METER_LIMIT && !runnable.is_empty() && r.chance(1, 2) {
-        s.running = r.pick(&runnable) as u32;
+        let n = r.pick(&runnable);
+        s.running = n as u32;
+        if s.threads[n].is_best_effort() {
+            s.threads[n].tag = s.time;
+        }
     }
     s
+}
+
+/// A virtual time of a state with this meter.
+fn any_time(r: &mut Rng, meter: u64) -> u64 {
+    let most = TAG_UNIT * meter;
+    match r.below(8) {
+        0 => 0,
+        1 => most,
+        // Near the end: the tags are held down by the meter.
+        2 => most - r.below(TAG_UNIT * 1000).min(most),
+        // As after dispatches of some ticks.
+        3 | 4 => r.below(meter.min(5_000_000) + 1) * (TAG_UNIT / r.range(1, 16)),
+        _ => r.edgy(0, most),
+    }
 }
 
 /// Leftovers, which no call may look at.
@@ -110,7 +156,10 @@ fn leave(r: &mut Rng, s: &mut Scheduler) {
     for t in &mut s.threads {
         *t = any_thread(r);
         if r.chance(1, 2) {
-            t.group = r.below(16) as u8;
+            t.group_or_weight = r.below(17) as u8;
+        }
+        if r.chance(1, 4) {
+            t.reservation = 0;
         }
         t.status = FREE;
     }
@@ -162,7 +211,7 @@ fn open_some(r: &mut Rng, s: &mut Scheduler) {
     }
 }
 
-/// The threads, listed in the order of their admission.
+/// The reserved threads, listed in the order of their admission.
 fn admit_some(r: &mut Rng, s: &mut Scheduler) {
     let want = if r.chance(1, 3) {
         r.below(65)
@@ -195,7 +244,52 @@ fn admit_some(r: &mut Rng, s: &mut Scheduler) {
     }
 }
 
-/// An admitted thread of a sound state.
+/// Best-effort threads under free numbers; at times no reserved one is runnable.
+fn add_best_effort(r: &mut Rng, s: &mut Scheduler) {
+    let mut free = with_status(s, FREE);
+    if r.chance(3, 4) {
+        r.shuffle(&mut free);
+    }
+    let want = match r.below(4) {
+        0 => 1,
+        1 => r.range(1, 4),
+        _ => r.edgy(1, free.len() as u64),
+    };
+    if r.chance(2, 5) {
+        for n in reserved(s) {
+            s.threads[n].status = BLOCKED;
+        }
+    }
+    let mood = r.below(5);
+    let tied = r.chance(1, 3);
+    for &n in free.iter().take(want as usize) {
+        let mut t = some_account(r, s, mood);
+        t.group_or_weight = r.edgy(1, WEIGHT_MOST as u64) as u8;
+        let any = r.bits() as i32;
+        t.allotment = r.pick(&[0, 1, i32::MIN, i32::MAX, any]);
+        let high = highest(s, &t);
+        let low = if t.status == RUNNABLE { s.time } else { 0 };
+        t.tag = match r.below(8) {
+            0 | 1 => s.time,
+            2 | 3 => high,
+            // As after a run from the virtual time.
+            4 => (s.time + r.below(1_001_000) * t.step()).min(high),
+            5 => s.time.saturating_sub(r.below(3)).max(low),
+            _ => r.edgy(low, high),
+        };
+        // The tag of another one.
+        let others = best_effort(s);
+        if tied && !others.is_empty() {
+            let other = s.threads[r.pick(&others)].tag;
+            if (low..=high).contains(&other) {
+                t.tag = other;
+            }
+        }
+        s.threads[n] = t;
+    }
+}
+
+/// A reserved thread of a sound state.
 fn some_thread(r: &mut Rng, s: &Scheduler, group: usize, reservation: u64, mood: u64) -> Thread {
     let m = s.settings.thousandth as u64;
     // At times the quantum of a smaller reservation.
@@ -204,6 +298,18 @@ fn some_thread(r: &mut Rng, s: &Scheduler, group: usize, reservation: u64, mood:
     } else {
         r.edgy(1, reservation * m)
     };
+    let any = r.bits();
+    Thread {
+        allotment: allotment as i32,
+        reservation: reservation as u16,
+        group_or_weight: group as u8,
+        tag: r.pick(&[0, s.time, u64::MAX, any]),
+        ..some_account(r, s, mood)
+    }
+}
+
+/// A thread of a sound state but for what its kind asks.
+fn some_account(r: &mut Rng, s: &Scheduler, mood: u64) -> Thread {
     let admission = r.edgy(0, s.meter);
     let anchor = r.edgy(admission, s.meter);
     let runnable = match mood {
@@ -218,110 +324,7 @@ fn some_thread(r: &mut Rng, s: &Scheduler, group: usize, reservation: u64, mood:
         anchor,
         ticks: r.edgy(0, s.meter - admission),
         since: r.edgy(0, s.meter - anchor),
-        allotment: allotment as i32,
-        reservation: reservation as u16,
-        group: group as u8,
         status: if runnable { RUNNABLE } else { BLOCKED },
+        ..Thread::UNUSED
     }
-}
-
-/// Overwrites one random field by an arbitrary or edge value.
-fn overwrite(r: &mut Rng, s: &mut Scheduler) {
-    let value = edge_value(r);
-    // Mostly a thread that is admitted and a place within the list.
-    let used = admitted(s);
-    let n = if !used.is_empty() && r.chance(3, 4) {
-        r.pick(&used)
-    } else {
-        r.below(64) as usize
-    };
-    let i = if s.count > 0 && r.chance(3, 4) {
-        r.below(s.count.min(64) as u64) as usize
-    } else {
-        r.below(64) as usize
-    };
-    let g = r.below(16) as usize;
-    let t = &mut s.threads[n];
-    match r.below(20) {
-        0 => t.admission = value,
-        1 => t.anchor = value,
-        2 => t.ticks = value,
-        3 => t.since = value,
-        4 => t.allotment = value as i32,
-        5 => t.reservation = value as u16,
-        6 => t.group = value as u8,
-        7 => t.status = value as u8,
-        8 => t.status = r.below(4) as u8,
-        9 => s.order[i] = value as u8,
-        10 => s.order[i] = r.below(64) as u8,
-        11 => s.groups[g].ceiling = value as u16,
-        12 => s.groups[g].parent = value as u8,
-        13 => s.groups[g].opened = if r.chance(1, 2) { 1 } else { value as u8 },
-        14 => s.meter = value,
-        15 => {
-            if r.chance(1, 2) {
-                s.settings.thousandth = value as u16;
-            } else {
-                s.settings.interval = value as u32;
-            }
-        }
-        16 => s.count = value as u32,
-        17 => {
-            let m = s.settings.thousandth;
-            let beside = [m.wrapping_sub(1), m, m.saturating_add(1), value as u16];
-            s.settings.overrun = r.pick(&beside);
-        }
-        // A debt that was not settled.
-        18 => t.allotment = -(r.edgy(0, 1001) as i32),
-        _ => s.running = value as u32,
-    }
-}
-
-/// Arbitrary bits in every field, or a sound state with one or a few fields
-/// overwritten. It may by chance be sound.
-pub fn hostile_state(r: &mut Rng) -> Scheduler {
-    let mut s = sound_state(r);
-    if r.chance(2, 3) {
-        let few = if r.chance(1, 2) { 1 } else { r.range(2, 4) };
-        for _ in 0..few {
-            overwrite(r, &mut s);
-        }
-        return s;
-    }
-    let tame = r.chance(1, 2);
-    for t in &mut s.threads {
-        *t = any_thread(r);
-        if tame {
-            t.status %= 4;
-            t.group %= 17;
-            t.reservation %= 1002;
-        }
-    }
-    for g in &mut s.groups {
-        *g = any_group(r);
-        if tame {
-            g.opened %= 3;
-            g.parent %= 17;
-            g.ceiling %= 1002;
-        }
-    }
-    for n in &mut s.order {
-        *n = r.bits() as u8 % if tame { 65 } else { 255 };
-    }
-    s.meter = edge_value(r);
-    s.settings.interval = edge_value(r) as u32;
-    s.settings.thousandth = edge_value(r) as u16;
-    s.settings.overrun = edge_value(r) as u16;
-    s.count = edge_value(r) as u32;
-    s.running = edge_value(r) as u32;
-    if tame {
-        s.settings = Settings {
-            overrun: r.edgy(0, 100) as u16,
-            ..Settings::default()
-        };
-        s.groups[0] = Group::ROOT;
-        s.count %= 66;
-        s.running %= 66;
-    }
-    s
 }

@@ -35,6 +35,7 @@ impl Scheduler {
             order: [0; THREADS],
             groups,
             meter: 0,
+            time: 0,
             settings,
             count: 0,
             running: NONE,
@@ -79,6 +80,14 @@ impl Scheduler {
         self.admit_sound(number, group, reservation)
     }
 
+    /// Admits a best-effort thread.
+    pub fn admit_best_effort(&mut self, number: u64, weight: u64) -> u32 {
+        if !self.sound() {
+            return answer::UNSOUND;
+        }
+        self.admit_best_effort_sound(number, weight)
+    }
+
     pub fn remove(&mut self, number: u64) -> u32 {
         if !self.sound() {
             return answer::UNSOUND;
@@ -93,7 +102,7 @@ impl Scheduler {
         self.wake_sound(number)
     }
 
-    /// Gives a thread another reservation; its place stays.
+    /// Gives a reserved thread another reservation; its place stays.
     pub fn change(&mut self, number: u64, reservation: u64) -> u32 {
         if !self.sound() {
             return answer::UNSOUND;
@@ -121,7 +130,7 @@ impl Scheduler {
         &self.order[..(self.count as usize).min(THREADS)]
     }
 
-    /// The number names an admitted thread.
+    /// The number names an admitted thread of either kind.
     #[inline]
     pub fn admitted(&self, number: u64) -> bool {
         number < THREADS as u64 && self.threads[number as usize].status != FREE
@@ -133,11 +142,12 @@ impl Scheduler {
         number < GROUPS as u64 && self.groups[number as usize].opened == 1
     }
 
-    /// What a group's threads and child groups take of its ceiling.
+    /// What a group's threads, all reserved ones, and child groups take of its
+    /// ceiling.
     pub fn taken(&self, group: usize) -> u32 {
         let mut sum = 0;
         for t in &self.threads {
-            if t.status != FREE && t.group as usize == group {
+            if t.is_reserved() && t.group() == group {
                 sum += t.reservation as u32;
             }
         }
@@ -219,12 +229,36 @@ impl Scheduler {
             since: 0,
             allotment: reservation as i32 * self.settings.thousandth as i32,
             reservation: reservation as u16,
-            group: group as u8,
+            group_or_weight: group as u8,
             status: RUNNABLE,
+            tag: 0,
         };
         // A number was free, so the list is not full.
         self.order[self.count as usize] = number as u8;
         self.count += 1;
+        answer::ACCEPTED
+    }
+
+    #[inline]
+    pub(crate) fn admit_best_effort_sound(&mut self, number: u64, weight: u64) -> u32 {
+        if number >= THREADS as u64 {
+            return answer::THREAD;
+        }
+        if self.admitted(number) {
+            return answer::ADMITTED;
+        }
+        if weight == 0 || weight > WEIGHT_MOST as u64 {
+            return answer::AMOUNT;
+        }
+        self.threads[number as usize] = Thread {
+            admission: self.meter,
+            anchor: self.meter,
+            group_or_weight: weight as u8,
+            status: RUNNABLE,
+            // Its last finish tag counts as 0.
+            tag: self.time,
+            ..Thread::UNUSED
+        };
         answer::ACCEPTED
     }
 
@@ -236,7 +270,7 @@ impl Scheduler {
         if self.running as u64 == number {
             return answer::RUNS;
         }
-        self.take_off(number as usize);
+        self.free(number as usize);
         answer::ACCEPTED
     }
 
@@ -245,7 +279,7 @@ impl Scheduler {
         if !self.admitted(number) {
             return answer::THREAD;
         }
-        let meter = self.meter;
+        let (meter, time) = (self.meter, self.time);
         let t = &mut self.threads[number as usize];
         if t.status != BLOCKED {
             return answer::NOT_BLOCKED;
@@ -253,12 +287,15 @@ impl Scheduler {
         t.status = RUNNABLE;
         t.anchor = meter;
         t.since = 0;
+        if t.reservation == 0 {
+            t.tag = t.tag.max(time);
+        }
         answer::ACCEPTED
     }
 
     #[inline]
     pub(crate) fn change_sound(&mut self, number: u64, reservation: u64) -> u32 {
-        if !self.admitted(number) {
+        if !self.admitted(number) || self.threads[number as usize].reservation == 0 {
             return answer::THREAD;
         }
         if self.running as u64 == number {
@@ -269,7 +306,7 @@ impl Scheduler {
         }
         // The old reservation counts as free.
         let n = number as usize;
-        let (group, old) = (self.threads[n].group as usize, self.threads[n].reservation);
+        let (group, old) = (self.threads[n].group(), self.threads[n].reservation);
         if !self.fits(group, old as u64, reservation) {
             return answer::ROOM;
         }
@@ -303,10 +340,34 @@ impl Scheduler {
                 };
             }
         }
+        self.dispatch_best_effort()
+    }
+
+    /// The dispatch where no reserved thread is runnable: smallest tag first, then
+    /// lower number.
+    fn dispatch_best_effort(&mut self) -> Reply {
+        let (mut first, mut least, mut admitted) = (NONE, u64::MAX, 0);
+        for (n, t) in self.threads.iter().enumerate() {
+            admitted += (t.status != FREE) as u32;
+            // No tag of a sound state is as large as `least` is at first.
+            if t.status == RUNNABLE && t.tag < least {
+                (first, least) = (n as u32, t.tag);
+            }
+        }
+        if first == NONE {
+            return Reply {
+                answer: answer::ACCEPTED,
+                thread: NONE,
+                slice: 0,
+                before: admitted,
+            };
+        }
+        self.running = first;
+        self.time = least;
         Reply {
             answer: answer::ACCEPTED,
-            thread: NONE,
-            slice: 0,
+            thread: first,
+            slice: self.settings.interval,
             before: self.count,
         }
     }
@@ -328,7 +389,7 @@ impl Scheduler {
         self.meter += used;
         self.running = NONE;
         if reason == EXIT {
-            self.take_off(n);
+            self.free(n);
             return answer::ACCEPTED;
         }
         t.ticks += used;
@@ -339,6 +400,10 @@ impl Scheduler {
         if reason == YIELD {
             t.anchor = self.meter;
             t.since = 0;
+        }
+        if t.reservation == 0 {
+            t.tag += used * t.step();
+            return answer::ACCEPTED;
         }
         // Nothing left, or a debt of at most O: the quantum, which is more than O,
         // is added once.
@@ -368,12 +433,14 @@ impl Scheduler {
         }
     }
 
-    /// Takes a thread off the list and frees its entry. Its number stays
-    /// behind just past the list's new end.
+    /// Frees an admitted thread's entry and takes a reserved one off the list. Its
+    /// number stays behind just past the list's new end.
     #[inline]
-    fn take_off(&mut self, n: usize) {
-        self.rotate_to_rear(n);
-        self.count -= 1;
+    fn free(&mut self, n: usize) {
+        if self.threads[n].reservation != 0 {
+            self.rotate_to_rear(n);
+            self.count -= 1;
+        }
         self.threads[n] = Thread::UNUSED;
     }
 }

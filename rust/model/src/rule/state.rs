@@ -8,6 +8,10 @@ pub const GROUPS: usize = 16;
 pub const NONE: u32 = 64;
 /// The whole processor in thousandths, and group 0's ceiling.
 pub const WHOLE: u16 = 1000;
+/// The largest weight of a best-effort thread.
+pub const WEIGHT_MOST: u8 = 16;
+/// What a tick adds to the tag of a thread of weight 1. Every weight divides it.
+pub const TAG_UNIT: u64 = 720_720;
 /// From this meter on no thread is dispatched.
 pub const METER_LIMIT: u64 = 10_000_000_000_000;
 /// The largest meter of a sound state, whatever the overrun limit is: the longest
@@ -18,7 +22,7 @@ pub const METER_MAX: u64 = METER_LIMIT + 1_000_000 + 999;
 pub const FREE: u8 = 0;
 /// Thread status: may be dispatched.
 pub const RUNNABLE: u8 = 1;
-/// Thread status: keeps its place in the list but is passed over.
+/// Thread status: is passed over; a reserved thread keeps its place in the list.
 pub const BLOCKED: u8 = 2;
 
 /// Report reason: the interval ended, the thread stays runnable.
@@ -95,6 +99,19 @@ impl Default for Settings {
     }
 }
 
+/// What a tick adds to a tag, by weight; 0 where no thread has that weight.
+const STEPS: [u64; WEIGHT_MOST as usize + 1] = {
+    let mut steps = [0; WEIGHT_MOST as usize + 1];
+    let mut weight = 1;
+    while weight < steps.len() {
+        steps[weight] = TAG_UNIT / weight as u64;
+        weight += 1;
+    }
+    steps
+};
+
+/// A reserved thread, which stands in the list and in a group, or a best-effort
+/// thread, which stands in neither: the one has a reservation, the other has 0.
 #[repr(C)]
 #[derive(Clone, Copy, Debug, PartialEq, Eq)]
 pub struct Thread {
@@ -106,13 +123,18 @@ pub struct Thread {
     pub ticks: u64,
     /// Ticks since the anchor.
     pub since: u64,
-    /// Ticks left before the thread moves to the rear: 1 to its quantum.
+    /// Ticks left before the thread moves to the rear: 1 to its quantum. Of no
+    /// meaning in a best-effort thread.
     pub allotment: i32,
-    /// Thousandths reserved.
+    /// Thousandths reserved; 0 in a best-effort thread.
     pub reservation: u16,
-    pub group: u8,
+    /// Group of a reserved thread, weight of a best-effort one.
+    pub group_or_weight: u8,
     /// 0 free, 1 runnable, 2 blocked.
     pub status: u8,
+    /// Start tag of a best-effort thread, its last finish tag while it is blocked.
+    /// Of no meaning in a reserved thread.
+    pub tag: u64,
 }
 
 impl Thread {
@@ -124,14 +146,52 @@ impl Thread {
         since: 0,
         allotment: 0,
         reservation: 0,
-        group: 0,
+        group_or_weight: 0,
         status: FREE,
+        tag: 0,
     };
 
-    /// The smaller of the allotment and P. An allotment below 0, which no sound
-    /// state holds, counts as 0.
+    /// Admitted with a reservation.
+    #[inline]
+    pub fn is_reserved(&self) -> bool {
+        self.status != FREE && self.reservation != 0
+    }
+
+    /// Admitted with a weight.
+    #[inline]
+    pub fn is_best_effort(&self) -> bool {
+        self.status != FREE && self.reservation == 0
+    }
+
+    /// Group of a reserved thread.
+    #[inline]
+    pub fn group(&self) -> usize {
+        self.group_or_weight as usize
+    }
+
+    /// Weight of a best-effort thread.
+    #[inline]
+    pub fn weight(&self) -> u64 {
+        self.group_or_weight as u64
+    }
+
+    /// What a tick adds to the tag of a best-effort thread: 720,720 / weight, and
+    /// 0 for a weight that no sound state holds.
+    #[inline]
+    pub fn step(&self) -> u64 {
+        STEPS
+            .get(self.group_or_weight as usize)
+            .copied()
+            .unwrap_or(0)
+    }
+
+    /// The smaller of the allotment and P, and P for a best-effort thread. An
+    /// allotment below 0, which no sound state holds, counts as 0.
     #[inline]
     pub fn slice(&self, settings: &Settings) -> u32 {
+        if self.reservation == 0 {
+            return settings.interval;
+        }
         (self.allotment.max(0) as u32).min(settings.interval)
     }
 }
@@ -164,11 +224,13 @@ impl Group {
 #[derive(Clone, Copy, Debug, PartialEq, Eq)]
 pub struct Scheduler {
     pub threads: [Thread; THREADS],
-    /// The list is the first `count` entries, front first.
+    /// The list is the first `count` entries, front first: the reserved threads.
     pub order: [u8; THREADS],
     pub groups: [Group; GROUPS],
     /// Ticks of all accepted reports since the start.
     pub meter: u64,
+    /// The virtual time: start tag of the last best-effort dispatch.
+    pub time: u64,
     pub settings: Settings,
     pub count: u32,
     /// Number of the running thread, 64 for none.

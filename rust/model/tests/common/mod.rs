@@ -66,6 +66,18 @@ pub fn admit(number: u64, reservation: u64) -> Record {
     })
 }
 
+/// Admits a best-effort thread.
+pub fn admit_weight(number: u64, weight: u64) -> Record {
+    record(Call::AdmitBestEffort { number, weight })
+}
+
+/// The admitted threads as an idle dispatch names them: the list, then the
+/// best-effort ones by number.
+pub fn named(s: &Scheduler) -> Vec<u8> {
+    let others = (0..64).filter(|&n| s.threads[n as usize].is_best_effort());
+    s.list().iter().copied().chain(others).collect()
+}
+
 pub fn remove(number: u64) -> Record {
     record(Call::Remove { number })
 }

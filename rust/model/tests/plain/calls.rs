@@ -26,6 +26,7 @@ pub fn plainly(before: &Scheduler, call: Call) -> (Reply, Scheduler) {
             number,
             reservation,
         } => plain.change(number, reservation),
+        Call::AdmitBestEffort { number, weight } => plain.admit_best_effort(number, weight),
     };
     match made {
         Ok(after) => (Reply::default(), after),
@@ -33,9 +34,13 @@ pub fn plainly(before: &Scheduler, call: Call) -> (Reply, Scheduler) {
     }
 }
 
-/// The smaller of the thread's allotment and P.
+/// The smaller of the thread's allotment and P, and P for a best-effort thread.
 pub fn slice(s: &Scheduler, n: usize) -> i128 {
-    (s.threads[n].allotment as i128).min(s.settings.interval as i128)
+    let p = s.settings.interval as i128;
+    match s.threads[n].reservation {
+        0 => p,
+        _ => (s.threads[n].allotment as i128).min(p),
+    }
 }
 
 /// The state before a call, and the one that is made of it.
@@ -53,6 +58,11 @@ impl Plain<'_> {
         n <= 63 && self.before.threads[n as usize].status != 0
     }
 
+    /// Admitted and reserved.
+    fn reserved(&self, n: u64) -> bool {
+        self.admitted(n) && self.before.threads[n as usize].reservation > 0
+    }
+
     fn open(&self, g: u64) -> bool {
         g <= 15 && self.before.groups[g as usize].opened == 1
     }
@@ -61,7 +71,7 @@ impl Plain<'_> {
     fn parts(&self, g: u64) -> Vec<u64> {
         let before = self.before;
         let threads = (0..64)
-            .filter(|&n| self.admitted(n) && before.threads[n as usize].group as u64 == g)
+            .filter(|&n| self.reserved(n) && before.threads[n as usize].group_or_weight as u64 == g)
             .map(|n| before.threads[n as usize].reservation as u64);
         let children = (1..16)
             .filter(|&c| self.open(c) && before.groups[c as usize].parent as u64 == g)
@@ -137,12 +147,47 @@ impl Plain<'_> {
             since: 0,
             allotment: (reservation * s.settings.thousandth as u64) as i32,
             reservation: reservation as u16,
-            group: group as u8,
+            group_or_weight: group as u8,
             status: 1,
+            tag: 0,
         };
         s.order[s.count as usize] = number as u8;
         s.count += 1;
         Ok(self.s)
+    }
+
+    fn admit_best_effort(mut self, number: u64, weight: u64) -> Result<Scheduler, u32> {
+        if number > 63 {
+            return Err(7);
+        }
+        if self.admitted(number) {
+            return Err(8);
+        }
+        if !(1..=16).contains(&weight) {
+            return Err(4);
+        }
+        let s = &mut self.s;
+        s.threads[number as usize] = Thread {
+            admission: s.meter,
+            anchor: s.meter,
+            ticks: 0,
+            since: 0,
+            allotment: 0,
+            reservation: 0,
+            group_or_weight: weight as u8,
+            status: 1,
+            tag: s.time,
+        };
+        Ok(self.s)
+    }
+
+    /// The entry is freed; a reserved thread leaves the list.
+    fn forget(&mut self, n: u64) {
+        if self.reserved(n) {
+            self.move_to_rear(n);
+            self.s.count -= 1;
+        }
+        self.s.threads[n as usize] = Thread::UNUSED;
     }
 
     fn remove(mut self, number: u64) -> Result<Scheduler, u32> {
@@ -152,9 +197,7 @@ impl Plain<'_> {
         if self.s.running as u64 == number {
             return Err(9);
         }
-        self.move_to_rear(number);
-        self.s.count -= 1;
-        self.s.threads[number as usize] = Thread::UNUSED;
+        self.forget(number);
         Ok(self.s)
     }
 
@@ -169,11 +212,14 @@ impl Plain<'_> {
         t.status = 1;
         t.anchor = self.s.meter;
         t.since = 0;
+        if t.reservation == 0 && t.tag < self.s.time {
+            t.tag = self.s.time;
+        }
         Ok(self.s)
     }
 
     fn change(mut self, number: u64, reservation: u64) -> Result<Scheduler, u32> {
-        if !self.admitted(number) {
+        if !self.reserved(number) {
             return Err(7);
         }
         if self.s.running as u64 == number {
@@ -183,7 +229,7 @@ impl Plain<'_> {
             return Err(4);
         }
         let old = self.before.threads[number as usize];
-        if reservation > self.free(old.group as u64) + old.reservation as u64 {
+        if reservation > self.free(old.group_or_weight as u64) + old.reservation as u64 {
             return Err(5);
         }
         let quantum = reservation * self.s.settings.thousandth as u64;
@@ -223,6 +269,25 @@ impl Plain<'_> {
             reply.thread = n as u32;
             reply.slice = slice(&self.s, n as usize) as u32;
             self.s.running = n as u32;
+            return (reply, self.s);
+        }
+        let others: Vec<u64> = (0..64)
+            .filter(|&n| self.admitted(n) && !self.reserved(n))
+            .collect();
+        let mut ready: Vec<(u64, u64)> = others
+            .iter()
+            .filter(|&&n| self.s.threads[n as usize].status == 1)
+            .map(|&n| (self.s.threads[n as usize].tag, n))
+            .collect();
+        ready.sort();
+        match ready.first() {
+            Some(&(tag, n)) => {
+                reply.thread = n as u32;
+                reply.slice = self.s.settings.interval;
+                self.s.running = n as u32;
+                self.s.time = tag;
+            }
+            None => reply.before += others.len() as u32,
         }
         (reply, self.s)
     }
@@ -244,6 +309,9 @@ impl Plain<'_> {
         s.meter += used;
         t.ticks += used;
         t.since += used;
+        if t.reservation == 0 {
+            return Ok(self.report_best_effort(n, reason, used));
+        }
         let quantum = t.reservation as i128 * s.settings.thousandth as i128;
         let left = t.allotment as i128 - used as i128;
         let moved = left <= 0 || reason == 2;
@@ -257,13 +325,26 @@ impl Plain<'_> {
             t.anchor = s.meter;
             t.since = 0;
         }
-        if moved || reason == 3 {
+        if moved {
             self.move_to_rear(n);
         }
         if reason == 3 {
-            self.s.count -= 1;
-            self.s.threads[n as usize] = Thread::UNUSED;
+            self.forget(n);
         }
         Ok(self.s)
+    }
+
+    /// The rest of a report of a best-effort thread that used these ticks.
+    fn report_best_effort(mut self, n: u64, reason: u64, used: u64) -> Scheduler {
+        let meter = self.s.meter;
+        let t = &mut self.s.threads[n as usize];
+        t.tag = (t.tag as u128 + used as u128 * 720_720 / t.group_or_weight as u128) as u64;
+        match reason {
+            1 => t.status = 2,
+            2 => (t.anchor, t.since) = (meter, 0),
+            3 => self.forget(n),
+            _ => {}
+        }
+        self.s
     }
 }

@@ -34,6 +34,7 @@ pub fn directly(s: &mut Scheduler, call: Call) -> Reply {
             number,
             reservation,
         } => s.change(number, reservation),
+        Call::AdmitBestEffort { number, weight } => s.admit_best_effort(number, weight),
     })
 }
 
@@ -63,6 +64,10 @@ fn call_of(rec: &Record) -> Call {
         9 => Call::Change {
             number,
             reservation: amount,
+        },
+        10 => Call::AdmitBestEffort {
+            number,
+            weight: amount,
         },
         _ => unreachable!(),
     }

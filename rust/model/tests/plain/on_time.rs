@@ -2,7 +2,8 @@
 
 use model::rule::{Scheduler, Thread};
 
-/// Answer and next state of a report on a sound state with O = 0.
+/// Answer and next state of a report on a sound state with O = 0, a reserved thread
+/// or none running.
 pub fn report_on_time(before: &Scheduler, reason: u64, used: u64) -> (u32, Scheduler) {
     let mut s = *before;
     if s.running == 64 {

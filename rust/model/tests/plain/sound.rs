@@ -18,15 +18,18 @@ pub fn plainly_sound(s: &Scheduler) -> bool {
     }
     let open = |g: usize| g < 16 && s.groups[g].opened == 1;
     let admitted: Vec<usize> = (0..64).filter(|&n| s.threads[n].status != 0).collect();
+    let (others, reserved): (Vec<usize>, Vec<usize>) = admitted
+        .iter()
+        .partition(|&&n| s.threads[n].reservation == 0);
     let root = open(0) && s.groups[0].ceiling == 1000;
     let tree = (1..16).filter(|&g| open(g)).all(|g| {
         let parent = s.groups[g].parent as usize;
         parent < g && open(parent) && (1..=1000).contains(&s.groups[g].ceiling)
     });
     let rooms = (0..16).filter(|&g| open(g)).all(|g| {
-        let threads: u64 = admitted
+        let threads: u64 = reserved
             .iter()
-            .filter(|&&n| s.threads[n].group as usize == g)
+            .filter(|&&n| s.threads[n].group_or_weight as usize == g)
             .map(|&n| s.threads[n].reservation as u64)
             .sum();
         let children: u64 = (1..16)
@@ -38,14 +41,27 @@ pub fn plainly_sound(s: &Scheduler) -> bool {
     let threads = admitted.iter().all(|&n| {
         let t = &s.threads[n];
         let (admission, anchor) = (t.admission as i128, t.anchor as i128);
-        open(t.group as usize)
-            && (1..=1000).contains(&t.reservation)
-            && t.allotment >= 1
-            && t.allotment as i128 <= t.reservation as i128 * m
-            && admission <= anchor
+        admission <= anchor
             && anchor <= meter
             && t.ticks as i128 <= meter - admission
             && t.since as i128 <= meter - anchor
+    });
+    let places = reserved.iter().all(|&n| {
+        let t = &s.threads[n];
+        open(t.group_or_weight as usize)
+            && (1..=1000).contains(&t.reservation)
+            && t.allotment >= 1
+            && t.allotment as i128 <= t.reservation as i128 * m
+    });
+    let time = s.time as i128;
+    let tags = others.iter().all(|&n| {
+        let t = &s.threads[n];
+        let (tag, weight) = (t.tag as i128, t.group_or_weight as i128);
+        (1..=16).contains(&weight)
+            && tag <= time + (p + o) * 720_720 / weight
+            && (t.status != 1 || tag >= time)
+            && (s.running as usize != n || tag == time)
+            && tag <= 720_720 * meter
     });
     let mut list: Vec<usize> = s.order[..s.count as usize]
         .iter()
@@ -58,7 +74,10 @@ pub fn plainly_sound(s: &Scheduler) -> bool {
         && tree
         && rooms
         && threads
-        && list == admitted
+        && places
+        && tags
+        && time <= 720_720 * meter
+        && list == reserved
         && running
         && meter <= 10_000_001_000_999
         && (s.running == 64 || meter < 10_000_000_000_000)
@@ -81,6 +100,9 @@ pub fn failing(s: &Scheduler, in_use: bool) -> Vec<&'static str> {
             _ => in_use,
         })
         .collect();
+    let (others, reserved): (Vec<usize>, Vec<usize>) = admitted
+        .iter()
+        .partition(|&&n| s.threads[n].reservation == 0);
     clause("m", (1..=1000).contains(&s.settings.thousandth));
     clause("P", (1..=1_000_000).contains(&s.settings.interval));
     clause("O", s.settings.overrun < s.settings.thousandth);
@@ -101,8 +123,8 @@ pub fn failing(s: &Scheduler, in_use: bool) -> Vec<&'static str> {
     }
     for g in (0..16).filter(|&g| open(g)) {
         let mut taken = 0u64;
-        for &n in &admitted {
-            if s.threads[n].group as usize == g {
+        for &n in &reserved {
+            if s.threads[n].group_or_weight as usize == g {
                 taken += s.threads[n].reservation as u64;
             }
         }
@@ -113,13 +135,33 @@ pub fn failing(s: &Scheduler, in_use: bool) -> Vec<&'static str> {
         }
         clause("room", taken <= s.groups[g].ceiling as u64);
     }
-    for &n in &admitted {
+    for &n in &reserved {
         let t = &s.threads[n];
-        clause("reservation", (1..=1000).contains(&t.reservation));
-        clause("thread's group", open(t.group as usize));
+        clause("reservation", t.reservation <= 1000);
+        clause("thread's group", open(t.group_or_weight as usize));
         clause("allotment 1", t.allotment >= 1);
         let quantum = t.reservation as i64 * s.settings.thousandth as i64;
         clause("allotment full", t.allotment as i64 <= quantum);
+    }
+    let most = 720_720 * s.meter as u128;
+    for &n in &others {
+        let t = &s.threads[n];
+        let (tag, time) = (t.tag as u128, s.time as u128);
+        clause("weight", (1..=16).contains(&t.group_or_weight));
+        // A weight of no meaning counts as 1 here.
+        let weight = match t.group_or_weight as u128 {
+            weight @ 1..=16 => weight,
+            _ => 1,
+        };
+        let longest = s.settings.interval as u128 + s.settings.overrun as u128;
+        clause("tag's reach", tag <= time + longest * 720_720 / weight);
+        clause("tag of a runnable", t.status != 1 || tag >= time);
+        clause("tag of the running", s.running as usize != n || tag == time);
+        clause("tag and meter", tag <= most);
+    }
+    clause("time and meter", s.time as u128 <= most);
+    for &n in &admitted {
+        let t = &s.threads[n];
         clause("admission", t.admission <= t.anchor);
         clause("anchor", t.anchor <= s.meter);
         // Growth counts as 0 where the clause above fails.
@@ -129,7 +171,7 @@ pub fn failing(s: &Scheduler, in_use: bool) -> Vec<&'static str> {
     }
     let mut list: Vec<usize> = s.list().iter().map(|&n| n as usize).collect();
     list.sort();
-    clause("list", list == admitted);
+    clause("list", list == reserved);
     clause("meter", s.meter <= METER_MAX);
     if s.running < 64 {
         clause("meter while running", s.meter < METER_LIMIT);

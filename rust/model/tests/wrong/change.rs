@@ -90,7 +90,8 @@ impl Fault {
             reservation > given - s.taken(g) as u64
         };
         let parent = |g: usize| s.groups[g].parent as usize;
-        let group = t.group as usize;
+        // A best-effort thread has no group: 7.
+        let group = if t.is_reserved() { t.group() } else { 0 };
         match (self, answer) {
             (Fault::AmountBeforeRunning, 9) if bad => 4,
             (Fault::AmountBeforeNumber, 7) if bad => 4,

@@ -81,7 +81,8 @@ impl Fault {
             return 13;
         }
         let t = &mut s.threads[n];
-        if t.status == 0 {
+        // An exit, or a best-effort thread, which has no allotment.
+        if t.reservation == 0 {
             return answer;
         }
         let left = before.threads[n].allotment - used as i32;
