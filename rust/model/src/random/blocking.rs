@@ -69,7 +69,8 @@ impl Taste {
 }
 
 /// The dispatch or report that is next, and now and then the other of the two.
-/// Most reports block and leave the thread its place.
+/// Most reports block and leave the thread its place; a best-effort thread more
+/// often goes on, for about its slice.
 fn run_or_report(r: &mut Rng, s: &Scheduler) -> Call {
     if (s.running == NONE) != r.chance(1, 25) {
         return Call::Dispatch;
@@ -78,6 +79,13 @@ fn run_or_report(r: &mut Rng, s: &Scheduler) -> Call {
         Some(t) => t.slice(&s.settings) as u64,
         None => 1000,
     };
+    let running = s.threads.get(s.running as usize);
+    if running.is_some_and(|t| t.is_best_effort()) && r.chance(1, 2) {
+        return Call::Report {
+            reason: r.pick(&[0, 0, 0, 0, 1, 1, 2]),
+            used: slice + r.edgy(0, s.settings.overrun as u64),
+        };
+    }
     Call::Report {
         reason: r.pick(&[1, 1, 1, 1, 1, 1, 1, 1, 0, 0, 2, 3]),
         used: match r.below(12) {
