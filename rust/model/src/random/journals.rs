@@ -94,7 +94,7 @@ fn storm_call(r: &mut Rng, s: &Scheduler) -> Call {
             reservation: r.range(1, 25),
         };
     }
-    if !blocked.is_empty() && r.chance(blocked.len() as u64, s.count as u64 + 4) {
+    if !blocked.is_empty() && r.chance(blocked.len() as u64, (68 - free.len()) as u64) {
         return Call::Wake {
             number: r.pick(&blocked) as u64,
         };

@@ -137,38 +137,11 @@ pub fn failing(s: &Scheduler, in_use: bool) -> Vec<&'static str> {
     }
     for &n in &reserved {
         let t = &s.threads[n];
-        clause("reservation", t.reservation <= 1000);
         clause("thread's group", open(t.group_or_weight as usize));
-        clause("allotment 1", t.allotment >= 1);
-        let quantum = t.reservation as i64 * s.settings.thousandth as i64;
-        clause("allotment full", t.allotment as i64 <= quantum);
     }
-    let most = 720_720 * s.meter as u128;
-    for &n in &others {
-        let t = &s.threads[n];
-        let (tag, time) = (t.tag as u128, s.time as u128);
-        clause("weight", (1..=16).contains(&t.group_or_weight));
-        // A weight of no meaning counts as 1 here.
-        let weight = match t.group_or_weight as u128 {
-            weight @ 1..=16 => weight,
-            _ => 1,
-        };
-        let longest = s.settings.interval as u128 + s.settings.overrun as u128;
-        clause("tag's reach", tag <= time + longest * 720_720 / weight);
-        clause("tag of a runnable", t.status != 1 || tag >= time);
-        clause("tag of the running", s.running as usize != n || tag == time);
-        clause("tag and meter", tag <= most);
-    }
-    clause("time and meter", s.time as u128 <= most);
-    for &n in &admitted {
-        let t = &s.threads[n];
-        clause("admission", t.admission <= t.anchor);
-        clause("anchor", t.anchor <= s.meter);
-        // Growth counts as 0 where the clause above fails.
-        let since = |from: u64| s.meter.saturating_sub(from);
-        clause("ticks", t.ticks <= since(t.admission));
-        clause("since", t.since <= since(t.anchor));
-    }
+    failing_reserved(s, &reserved, &mut clause);
+    failing_others(s, &others, &mut clause);
+    failing_accounts(s, &admitted, &mut clause);
     let mut list: Vec<usize> = s.list().iter().map(|&n| n as usize).collect();
     list.sort();
     clause("list", list == reserved);
@@ -183,4 +156,53 @@ pub fn failing(s: &Scheduler, in_use: bool) -> Vec<&'static str> {
         );
     }
     out
+}
+
+/// Judges a clause.
+type Clause<'a> = &'a mut dyn FnMut(&'static str, bool);
+
+/// The clauses on reserved threads alone, but for their groups.
+fn failing_reserved(s: &Scheduler, reserved: &[usize], clause: Clause) {
+    for &n in reserved {
+        let t = &s.threads[n];
+        clause("reservation", t.reservation <= 1000);
+        clause("allotment 1", t.allotment >= 1);
+        let quantum = t.reservation as i64 * s.settings.thousandth as i64;
+        clause("allotment full", t.allotment as i64 <= quantum);
+    }
+}
+
+/// The clauses on best-effort threads alone.
+fn failing_others(s: &Scheduler, others: &[usize], clause: Clause) {
+    let most = 720_720 * s.meter as u128;
+    for &n in others {
+        let t = &s.threads[n];
+        let (tag, time) = (t.tag as u128, s.time as u128);
+        clause("weight", (1..=16).contains(&t.group_or_weight));
+        // A weight of no meaning counts as 1 here.
+        let weight = match t.group_or_weight as u128 {
+            weight @ 1..=16 => weight,
+            _ => 1,
+        };
+        let longest = s.settings.interval as u128 + s.settings.overrun as u128;
+        clause("tag's reach", tag <= time + longest * 720_720 / weight);
+        clause("tag of a runnable", t.status != 1 || tag >= time);
+        clause("tag of the running", s.running as usize != n || tag == time);
+        clause("tag and meter", tag <= most);
+    }
+}
+
+/// The clauses on the accounts of either kind and on the virtual time.
+fn failing_accounts(s: &Scheduler, admitted: &[usize], clause: Clause) {
+    let most = 720_720 * s.meter as u128;
+    clause("time and meter", s.time as u128 <= most);
+    for &n in admitted {
+        let t = &s.threads[n];
+        clause("admission", t.admission <= t.anchor);
+        clause("anchor", t.anchor <= s.meter);
+        // Growth counts as 0 where the clause above fails.
+        let since = |from: u64| s.meter.saturating_sub(from);
+        clause("ticks", t.ticks <= since(t.admission));
+        clause("since", t.since <= since(t.anchor));
+    }
 }
