@@ -3,3 +3,4 @@ pub mod Lists
 pub mod Sums
 pub mod Bytes
 pub mod Signed
+pub mod Checks

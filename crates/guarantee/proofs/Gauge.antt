@@ -1,6 +1,7 @@
 -- The potential of the share guarantee on bare lists and numbers. The gauge is what stands before x in the list, blocked threads too,
 -- and the slice of a running thread that does not stand there. No call raises it, and a report by another thread lowers it by the
--- ticks charged that are within its slice, whether the thread stays, moves to the rear or leaves.
+-- ticks charged that are within its slice, whether the thread stays, moves to the rear, leaves or never stood in the list, as a best-effort
+-- thread: of that one the gauge has the slice alone.
 use Prim.Native.Nat.{ℕ, _+_, _-_, _*_, _≤_}
 use mathlib.Core.Path.{_≡_, refl, ap, _∙_}
 use mathlib.Core.List.{List, [], _∷_, _++_}
@@ -10,7 +11,7 @@ use native.Mathlib.Nat.{le-refl, mul-le-mul-left, mul-le-mul-right}
 use lib.Dec.{T, eqb}
 use borrow.Author.Tests.{eqb-true, ne-eqb}
 use Rattle.base.specs.Lists.{member, without}
-use Rattle.base.proofs.Bools.{by, is, clash}
+use Rattle.base.proofs.Bools.{by, is, clash, nor-l, nor-r}
 use Rattle.base.proofs.Lists.{sumOf, ahead, before, mask, ahead-snoc, before-snoc, ahead-stay, ahead-gone, before-without, member-without}
 use Rattle.base.proofs.Lists.{ahead-rear, sumOf-le, without-none}
 use Rattle.scheduler.proofs.Facts.{fits}
@@ -30,6 +31,17 @@ cond-le false n m h = le-refl 0
 cond-add : (b : Bool) (n d m : ℕ) → n + d ≤ m → cond b n 0 + cond b d 0 ≤ cond b m 0
 cond-add true n d m h = h
 cond-add false n d m h = le-refl 0
+
+-- one that is not in the list stands before nobody
+before-out : (r x : ℕ) (l : List ℕ) → T (not (member r l)) → before r x l ≡ false
+unfolding before member
+before-out r x [] t = refl
+before-out r x (n ∷ l) t =
+    rw (nor-l (eqb n r) (member r l) t, before-out r x l (nor-r (eqb n r) (member r l) t)) (either (eqb n x))
+  where
+    either : (b : Bool) → cond b false false ≡ false
+    either true = refl
+    either false = refl
 
 module _ (sel : ℕ → Bool) (x : ℕ) (off : sel x ≡ false) (v : ℕ) (l : List ℕ) (in-list : T (member x l)) where
   masked : (al al′ : ℕ → ℕ) (r : ℕ) → ((n : ℕ) → (n ≡ r → ⊥) → al′ n ≡ al n) → (n : ℕ) → (n ≡ r → ⊥) → mask sel al′ n ≡ mask sel al n
@@ -58,6 +70,22 @@ module _ (sel : ℕ → Bool) (x : ℕ) (off : sel x ≡ false) (v : ℕ) (l : L
       let z : mask sel al′ n + 0 ≤ mask sel al n = omega (arith, cond-le (sel n) (al′ n) (al n) less) in
       let c = ahead-stay x n 0 (mask sel al) (mask sel al′) (masked al al′ n same) z l in
       omega arith
+
+  -- a thread outside the list changes
+  pub gauge-aside : (al al′ : ℕ → ℕ) (r n : ℕ) → ((k : ℕ) → (k ≡ n → ⊥) → al′ k ≡ al k) → (n ≡ x → ⊥) → T (not (member n l))
+      → gauge sel x al′ l r v ≤ gauge sel x al l r v
+  unfolding gauge
+  gauge-aside al al′ r n same ax out =
+      let b = rw (without-none n l out) at (gone al al′ n same ax) in
+      omega arith
+
+  -- its run ends after t ticks within its slice
+  pub gauge-end : (al al′ : ℕ → ℕ) (r t v′ : ℕ) → ((k : ℕ) → (k ≡ r → ⊥) → al′ k ≡ al k) → (r ≡ x → ⊥) → (r ≡ 64 → ⊥)
+      → T (not (member r l)) → t ≤ v → gauge sel x al′ l 64 v′ + cond (sel r) t 0 ≤ gauge sel x al l r v
+  unfolding gauge
+  gauge-end al al′ r t v′ same ax runs out fits =
+      let b = rw (without-none r l out) at (gone al al′ r same ax) in
+      rw (ne-eqb r 64 runs, before-out r x l out) (omega (arith, b, cond-le (sel r) t v fits))
 
   -- a thread that doesn't run leaves the list
   pub gauge-leave : (al al′ : ℕ → ℕ) (r n : ℕ) → ((k : ℕ) → (k ≡ n → ⊥) → al′ k ≡ al k) → (n ≡ r → ⊥) → (n ≡ x → ⊥)

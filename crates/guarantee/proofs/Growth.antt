@@ -11,28 +11,31 @@ use Rattle.base.proofs.Bools.{by, and-l, and-r}
 use Rattle.scheduler.specs.declared.Settings.{Settings}
 use Rattle.scheduler.specs.declared.Scheduler.{Scheduler}
 use Rattle.scheduler.specs.State.{threadAt, admittedAt, sliceAt, usedMost, withThread, withGroup, withList, withRun}
-use Rattle.scheduler.specs.Refusals.{Call, openGroup, closeGroup, admit, remove, wake, dispatch, report, change, refusal}
-use Rattle.scheduler.specs.Effects.{toRear, offList, join, charged, exited, chosen, effect}
+use Rattle.scheduler.specs.Refusals.{Call, openGroup, closeGroup, admit, remove, wake, dispatch, report, change, admitEffort}
+use Rattle.scheduler.specs.Refusals.{refusal}
+use Rattle.scheduler.specs.Effects.{toRear, offList, join, aside, charged, exited, chosen, effect}
 use Rattle.scheduler.specs.Rule.{Reply, isDispatch, accept, refuse, step}
 use Rattle.guarantee.specs.Stretch.{Event, trace, final, accepted, ticksOf, overrunOf, named, sumIn, ticksIn, overrunsIn, anyone}
-use Rattle.guarantee.specs.Stretch.{allTicks, ticksBy, throughout, keepsAdmitted, Present}
-use Rattle.scheduler.proofs.Facts.{reserved-admitted}
-use Rattle.scheduler.proofs.Passed.{passes, report-passed, reported-cases}
-use Rattle.guarantee.proofs.Keep.{settings-kept, held, running-named}
-use Rattle.guarantee.proofs.Stretch.{Attributed, events, replied}
+use Rattle.guarantee.specs.Stretch.{allTicks, ticksBy, throughout, keepsAdmitted, keepsReady, Present, Ready}
+use Rattle.scheduler.proofs.Facts.{reserved-admitted, effort-admitted}
+use Rattle.scheduler.proofs.Passed.{passes, report-passed, reported-cases, removed-cases}
+use Rattle.guarantee.proofs.Keep.{settings-kept, held, running-named, ready-admitted}
+use Rattle.guarantee.proofs.Stretch.{Attributed, events, replied, throughout-map}
 
 -- an accepted call raises the meter by the ticks of its report
 pub meter-step : (c : Call) (s : Scheduler) → (effect c s) .meter ≡ s .meter + ticksOf c
-unfolding effect ticksOf withThread withGroup withList withRun offList join toRear charged exited
+unfolding effect ticksOf withThread withGroup withList withRun offList join toRear aside charged exited
 meter-step (openGroup n p c) s = omega arith
 meter-step (closeGroup n) s = omega arith
 meter-step (admit n g f) s = omega arith
-meter-step (remove n) s = omega arith
+meter-step (remove n) s = removed-cases (λ s′. s′ .meter ≡ s .meter + 0) n s (λ _. omega arith) (λ _. omega arith)
 meter-step (wake n) s = omega arith
 meter-step dispatch s = omega arith
 meter-step (report reason used) s =
     reported-cases (λ s′. s′ .meter ≡ s .meter + used) (s .running) reason used s (λ _. refl) (λ _ _. refl) (λ _ _. refl)
+    (λ _. refl) (λ _. refl)
 meter-step (change n f) s = omega arith
+meter-step (admitEffort n w) s = omega arith
 
 -- W is the meter's growth over the stretch.
 pub meter-growth : (cs : List Call) (s : Scheduler) (last : ℕ) → s .meter + allTicks last (trace s cs) ≡ (final s cs) .meter
@@ -84,6 +87,14 @@ pub own-growth : (s : Scheduler) (cs : List Call) (y : ℕ) → Present s cs y
 unfolding ticksBy Counts
 own-growth s cs y k = counts y cs s (s .running) (λ _. refl) (reserved-admitted s y (k .reserved)) (k .keeps)
 
+-- and so are A and B, of best-effort threads
+pub effort-growth : (s : Scheduler) (cs : List Call) (a : ℕ) → Ready s cs a
+    → (threadAt s a) .ticks + ticksBy a (s .running) (trace s cs) ≡ (threadAt (final s cs) a) .ticks
+unfolding ticksBy Counts
+effort-growth s cs a k =
+    counts a cs s (s .running) (λ _. refl) (effort-admitted s a (k .effort))
+    (throughout-map (keepsReady a) (keepsAdmitted a) (ready-admitted a) (s .running) (trace s cs) (k .keeps))
+
 -- With an overrun limit of 0 an accepted report stays within its slice,
 in-time : (c : Call) (s : Scheduler) → refusal c s ≡ 0 → s .settings .overrun ≡ 0 → ticksOf c - sliceAt s (s .running) ≡ 0
 unfolding ticksOf usedMost
@@ -94,6 +105,7 @@ in-time (remove n) s e z = omega arith
 in-time (wake n) s e z = omega arith
 in-time dispatch s e z = omega arith
 in-time (change n f) s e z = omega arith
+in-time (admitEffort n w) s e z = omega arith
 in-time (report reason used) s e z = omega (arith, (report-passed s reason used ((passes (report reason used) s e) .1)) .1, z)
 
 -- so that every sum of overruns of the stretch is 0, whosever they are.

@@ -1,16 +1,17 @@
 -- The share guarantee, RULE 9.6: what a thread that stays runnable is owed over a stretch, and what a second thread may take beside it.
--- Both follow from the induction of Share.Stretch, once with every other thread counted at the rate 1000 − f, once with the second
--- thread alone at the rate of its reservation; the potential of a sound state is at most f × h × m + f × P + h × f × m.
-use Prim.Native.Nat.{ℕ, _+_, _-_, _*_, min, _≤_}
+-- Both follow from the induction of Stretch, once with every other thread counted at the rate 1000 − f, once with the second thread alone
+-- at the rate of its reservation; the potential of a sound state is at most f × h × m + f × P + h × f × m. The term f × P is for a
+-- best-effort thread that runs in the first state (`weight-all` here, `aside-quiet` of Step); Example has a stretch that needs it.
+use Prim.Native.Nat.{ℕ, _+_, _-_, _*_, _≤_}
 use mathlib.Core.Path.{_≡_, refl, ap, subst}
 use mathlib.Core.List.{List, [], _∷_}
 use mathlib.Core.Bool.{Bool, true, false, not, cond, _&&_, _||_}
 use native.Mathlib.Omega.{arith}
-use native.Mathlib.Nat.{le-refl, mul-le-mul-left, mul-le-mul-right, min-le-left, min-le-right, sub-le}
+use native.Mathlib.Nat.{le-refl, mul-le-mul-left, mul-le-mul-right, sub-le}
 use lib.Dec.{T, eqb}
 use borrow.Author.Tests.{eqb-true, eqb-false, ne-eqb, eq-eqb}
 use Rattle.base.specs.Lists.{member}
-use Rattle.base.proofs.Bools.{by, and-l, and-r, both, or-false-r}
+use Rattle.base.proofs.Bools.{by, or-false-r}
 use Rattle.base.proofs.Lists.{sumOf, ahead, before, mask, ahead-sumOf, sumOf-le, sumOf-split, sumOf-once, ahead-none}
 use Rattle.scheduler.specs.declared.Scheduler.{Scheduler}
 use Rattle.scheduler.specs.State.{reservedAt, reservationAt, allotmentAt, listed, sliceAt}
@@ -19,12 +20,14 @@ use Rattle.scheduler.specs.Refusals.{Call}
 use Rattle.guarantee.specs.Stretch.{Event, trace, final, accepted, ticksOf, named, sumIn, ticksIn, overrunsIn, anyone, allTicks}
 use Rattle.guarantee.specs.Stretch.{ticksBy, overrunsBeside, overrunsBy, throughout, keepsRunnable, keepsAdmitted, Protected, Present}
 use Rattle.guarantee.specs.Stretch.{Unchanged, Owed, Second}
-use Rattle.scheduler.proofs.Facts.{Facts, facts, member-reserved, below-quantum, below-whole}
+use Rattle.scheduler.proofs.Facts.{Facts, facts, reserved-has, member-reserved, below-quantum, below-whole}
+use Rattle.scheduler.proofs.Steps.{slice-within, slice-most}
 use Rattle.guarantee.proofs.Gauge.{gauge}
-use Rattle.guarantee.proofs.Step.{weight, potential, Guarded}
+use Rattle.guarantee.proofs.Quiet.{weight, potential}
+use Rattle.guarantee.proofs.Step.{Guarded}
 use Rattle.guarantee.proofs.Keep.{runnable-admitted}
 use Rattle.scheduler.proofs.Tree.{listed-most}
-use Rattle.guarantee.proofs.Stretch.{Reserved, Bound, stretch}
+use Rattle.guarantee.proofs.Stretch.{Reserved, Bound, throughout-map, stretch}
 use Rattle.guarantee.proofs.Growth.{punctual}
 
 -- ticks of all, in two parts
@@ -38,20 +41,6 @@ ticks-split x last (e ∷ es) = omega (arith, ticks-split x (named last e) es, p
     parts true true t = omega arith
     parts true false t = omega arith
     parts false b t = refl
-
-throughout-map : (p q : ℕ → Call → Bool) → ((last : ℕ) (c : Call) → T (p last c) → T (q last c)) → (last : ℕ) (es : List Event)
-    → T (throughout p last es) → T (throughout q last es)
-unfolding throughout
-throughout-map p q f last [] t = tt
-throughout-map p q f last (e ∷ es) t =
-    both (not (accepted e) || q last (e .call)) (throughout q (named last e) es)
-    (weaken (not (accepted e)) (p last (e .call)) (q last (e .call)) (f last (e .call))
-    (and-l (not (accepted e) || p last (e .call)) (throughout p (named last e) es) t))
-    (throughout-map p q f (named last e) es (and-r (not (accepted e) || p last (e .call)) (throughout p (named last e) es) t))
-  where
-    weaken : (a b c : Bool) → (T b → T c) → T (a || b) → T (a || c)
-    weaken true b c f t = tt
-    weaken false b c f t = f t
 
 -- Sums of the first state.
 
@@ -72,42 +61,37 @@ cond-at-most true b n = omega arith
 cond-at-most false true n = le-refl n
 cond-at-most false false n = omega arith
 
+-- The term P: the slice of a thread that runs and does not stand before x. A reserved thread's slice lies within its allotment, which is
+-- counted among those of the list anyway; a best-effort one's, all of P, is counted here only.
 weight-all : (s : Scheduler) → Facts s → (sel : ℕ → Bool) (x h : ℕ) → sumOf (mask sel (reservationAt s)) (listed s) ≤ h
     → weight sel x s ≤ h * s .settings .thousandth + s .settings .interval
-unfolding weight gauge sliceAt
+unfolding weight gauge
 weight-all s k sel x h sum =
     let r = s .running in
-    let c = cond-at-most (eqb r 64 || before r x (listed s)) (sel r) (min (allotmentAt s r) (s .settings .interval)) in
-    omega (
-      arith,
-      allotments s k sel h sum,
-      ahead-sumOf x (mask sel (allotmentAt s)) (listed s),
-      min-le-right (allotmentAt s r)
-          (s .settings .interval),
-    )
+    let c = cond-at-most (eqb r 64 || before r x (listed s)) (sel r) (sliceAt s r) in
+    omega (arith, allotments s k sel h sum, ahead-sumOf x (mask sel (allotmentAt s)) (listed s), slice-most s r)
 
 -- one thread is before x, or runs behind it
 weight-one : (s : Scheduler) → Facts s → (x y g : ℕ) → T (reservedAt s y) → reservationAt s y ≡ g
     → weight (λ n. eqb n y) x s ≤ g * s .settings .thousandth
-unfolding weight gauge sliceAt
+unfolding weight gauge
 weight-one s k x y g own is-g =
     let l = listed s in
     let al = allotmentAt s in
-    let p = s .settings .interval in
     let r = s .running in
     let sum : sumOf (mask (λ n. eqb n y) (reservationAt s)) l ≤ g =
     subst (λ (z : ℕ). sumOf (mask (λ n. eqb n y) (reservationAt s)) l ≤ z) is-g (sumOf-once y (reservationAt s) l (k .once)) in
     let a = allotments s k (λ n. eqb n y) g sum in
     let b = ahead-sumOf x (mask (λ n. eqb n y) al) l in
     let most : al y ≤ g * s .settings .thousandth = subst (λ (z : ℕ). al y ≤ z * s .settings .thousandth) is-g (below-quantum s k y own) in
-    by (λ d. (eqb r 64 || before r x l) ≡ d → ahead x (mask (λ n. eqb n y) al) l + cond d 0 (cond (eqb r y) (min (al r) p) 0)
+    by (λ d. (eqb r 64 || before r x l) ≡ d → ahead x (mask (λ n. eqb n y) al) l + cond d 0 (cond (eqb r y) (sliceAt s r) 0)
     ≤ g * s .settings .thousandth) (eqb r 64 || before r x l)
     (λ e _. omega arith)
-    (λ e _. by (λ d. ahead x (mask (λ n. eqb n y) al) l + cond d (min (al r) p) 0 ≤ g * s .settings .thousandth) (eqb r y)
+    (λ e _. by (λ d. ahead x (mask (λ n. eqb n y) al) l + cond d (sliceAt s r) 0 ≤ g * s .settings .thousandth) (eqb r y)
     (λ q.
     let z = eqb-true r y q in
     let none = ahead-none x y al l (subst (λ (j : ℕ). before j x l ≡ false) z (or-false-r (eqb r 64) (before r x l) e)) in
-    omega (arith, min-le-left (al r) p, ap al z))
+    omega (arith, slice-within s y (reserved-has s y own), ap (sliceAt s) z))
     (λ q. omega arith))
     refl
 

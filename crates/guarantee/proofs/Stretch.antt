@@ -3,11 +3,11 @@
 use Prim.Native.Nat.{ℕ, _+_, _-_, _*_, _≤_}
 use mathlib.Core.Path.{_≡_, refl, sym, subst, _∙_}
 use mathlib.Core.List.{List, [], _∷_}
-use mathlib.Core.Bool.{Bool, false, cond}
+use mathlib.Core.Bool.{Bool, true, false, not, cond, _||_}
 use native.Mathlib.Omega.{arith}
 use lib.Dec.{T, eqb}
 use borrow.Author.Tests.{eqb-true}
-use Rattle.base.proofs.Bools.{by, and-l, and-r}
+use Rattle.base.proofs.Bools.{by, and-l, and-r, both}
 use Rattle.base.proofs.Lists.{sumOf, mask}
 use Rattle.scheduler.specs.declared.Scheduler.{Scheduler}
 use Rattle.scheduler.specs.State.{reservedAt, reservationAt, listed, sliceAt}
@@ -19,7 +19,8 @@ use Rattle.guarantee.specs.Stretch.{Event, trace, final, accepted, ticks
 use Rattle.guarantee.specs.Stretch.{throughout, retains, keepsRunnable, keepsAdmitted}
 use Rattle.scheduler.proofs.Facts.{reserved-admitted}
 use Rattle.scheduler.proofs.Passed.{passes}
-use Rattle.guarantee.proofs.Step.{potential, Guarded, StepBound, step-bound}
+use Rattle.guarantee.proofs.Quiet.{potential}
+use Rattle.guarantee.proofs.Step.{Guarded, StepBound, step-bound}
 use Rattle.guarantee.proofs.Keep.{Held, held, running-named, runnable-admitted}
 
 -- y has a reservation of g
@@ -38,6 +39,21 @@ events c cs s r = record { call = c; given = s; reply = r } ∷ trace (r .state)
 -- the reply to a call, by whether it is accepted
 abbrev pub replied : Call → Scheduler → Bool → Reply
 replied c s b = cond b (accept c s) (refuse (refusal c s) s)
+
+-- a weaker test of every accepted call
+pub throughout-map : (p q : ℕ → Call → Bool) → ((last : ℕ) (c : Call) → T (p last c) → T (q last c)) → (last : ℕ) (es : List Event)
+    → T (throughout p last es) → T (throughout q last es)
+unfolding throughout
+throughout-map p q f last [] t = tt
+throughout-map p q f last (e ∷ es) t =
+    both (not (accepted e) || q last (e .call)) (throughout q (named last e) es)
+    (weaken (not (accepted e)) (p last (e .call)) (q last (e .call)) (f last (e .call))
+    (and-l (not (accepted e) || p last (e .call)) (throughout p (named last e) es) t))
+    (throughout-map p q f (named last e) es (and-r (not (accepted e) || p last (e .call)) (throughout p (named last e) es) t))
+  where
+    weaken : (a b c : Bool) → (T b → T c) → T (a || b) → T (a || c)
+    weaken true b c f t = tt
+    weaken false b c f t = f t
 
 -- what a stretch from s to z owes: the others' ticks and what is left of the potential
 unfoldable pub Bound : (f g h : ℕ) → (ℕ → Bool) → (x y : ℕ) → Scheduler → Scheduler → ℕ → List Event → Type 0

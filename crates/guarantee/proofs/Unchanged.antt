@@ -10,7 +10,8 @@ use borrow.Author.Tests.{eqb-true, eq-eqb}
 use Rattle.base.proofs.Bools.{by, and-l, and-r, both, holds}
 use Rattle.scheduler.specs.declared.Scheduler.{Scheduler}
 use Rattle.scheduler.specs.State.{admittedAt, reservationAt}
-use Rattle.scheduler.specs.Refusals.{Call, openGroup, closeGroup, admit, remove, wake, dispatch, report, change, refusal}
+use Rattle.scheduler.specs.Refusals.{Call, openGroup, closeGroup, admit, remove, wake, dispatch, report, change, admitEffort}
+use Rattle.scheduler.specs.Refusals.{refusal}
 use Rattle.scheduler.specs.Effects.{chosen, effect}
 use Rattle.scheduler.specs.Rule.{isDispatch, accept, refuse, step}
 use Rattle.guarantee.specs.Stretch.{Event, trace, final, accepted, named, throughout, keepsAdmitted, retains, Unchanged, Present}
@@ -74,6 +75,7 @@ retained g y last (remove n) s e q = tt
 retained g y last (wake n) s e q = tt
 retained g y last dispatch s e q = tt
 retained g y last (report reason used) s e q = tt
+retained g y last (admitEffort n w) s e q = tt
 retained g y last (change n d) s e q =
     by (λ b. eqb n y ≡ b → T (not b || eqb d g)) (eqb n y)
     (λ z _. holds (eqb d g) (eq-eqb d g (amount (eqb-true n y z))))

@@ -1,12 +1,12 @@
--- RULE 9, the share guarantee: a stretch is a list of the eight calls, each given the state that the call before it handed back; what is
--- counted in it, what is asked of its two threads, and the two limits.
+-- RULE 9, the share guarantee and fairness: a stretch is a list of the nine calls, each given the state that the call before it handed
+-- back; what is counted in it, what is asked of its threads, and the limits: two for reserved threads, one between best-effort threads.
 use Prim.Native.Nat.{ℕ, _+_, _-_, _*_, _≤_}
 use mathlib.Core.List.{List, [], _∷_}
 use mathlib.Core.Bool.{Bool, true, not, cond, _&&_, _||_}
 use lib.Dec.{T, eqb}
 use Rattle.scheduler.specs.declared.Scheduler.{Scheduler}
-use Rattle.scheduler.specs.State.{runnableAt, reservedAt, reservationAt, sliceAt}
-use Rattle.scheduler.specs.Refusals.{Call, openGroup, closeGroup, admit, remove, wake, dispatch, report, change}
+use Rattle.scheduler.specs.State.{limitOf, runnableAt, reservedAt, effortAt, weightAt, reservationAt, sliceAt}
+use Rattle.scheduler.specs.Refusals.{Call, openGroup, closeGroup, admit, remove, wake, dispatch, report, change, admitEffort}
 use Rattle.scheduler.specs.Rule.{Reply, step, isDispatch}
 
 -- a call of the stretch, the state that it was given, and its reply
@@ -37,6 +37,7 @@ ticksOf (wake n) = 0
 ticksOf dispatch = 0
 ticksOf (report r u) = u
 ticksOf (change n f) = 0
+ticksOf (admitEffort n w) = 0
 
 -- RULE 2.5: the ticks of a report beyond the slice of the thread that ran; of another call 0
 unfoldable pub overrunOf : Event → ℕ
@@ -90,6 +91,7 @@ keeps ok x last (wake n) = true
 keeps ok x last dispatch = true
 keeps ok x last (report reason u) = not (eqb last x) || ok reason
 keeps ok x last (change n f) = true
+keeps ok x last (admitEffort n w) = true
 
 -- a change that names x is to the amount f
 unfoldable pub retains : ℕ → ℕ → ℕ → Call → Bool
@@ -101,6 +103,7 @@ retains f x last (wake n) = true
 retains f x last dispatch = true
 retains f x last (report reason u) = true
 retains f x last (change n d) = not (eqb n x) || eqb d f
+retains f x last (admitEffort n w) = true
 
 -- RULE 9.4, 9.5: the reasons that the two threads' own reports may have
 abbrev pub keepsRunnable : ℕ → ℕ → Call → Bool
@@ -109,22 +112,35 @@ keepsRunnable x last c = keeps (λ r. eqb r 0) x last c
 abbrev pub keepsAdmitted : ℕ → ℕ → Call → Bool
 keepsAdmitted y last c = keeps (λ r. not (eqb r 3)) y last c
 
+-- RULE 9.8: and those of a best-effort thread that stays runnable, which may yield
+abbrev pub staysReady : ℕ → Bool
+staysReady r = eqb r 0 || eqb r 2
+
+abbrev pub keepsReady : ℕ → ℕ → Call → Bool
+keepsReady a last c = keeps staysReady a last c
+
 -- RULE 9.4, 9.5: the reservation of x is the same at every point of the stretch: every accepted change that names x is to the amount that
 -- it has in the first state
 abbrev pub Unchanged : Scheduler → List Call → ℕ → Type 0
 Unchanged s cs x = T (throughout (retains (reservationAt s x) x) (s .running) (trace s cs))
 
--- RULE 9.4: x stays runnable, does not yield and keeps its reservation
+-- RULE 9.4: x is a reserved thread, stays runnable, does not yield and keeps its reservation
 pub record Protected (s : Scheduler) (cs : List Call) (x : ℕ) : Type 0 where
   pub reserved : T (reservedAt s x)
   pub runnable : T (runnableAt s x)
   pub keeps : T (throughout (keepsRunnable x) (s .running) (trace s cs))
   pub unchanged : Unchanged s cs x
 
--- RULE 9.5, its first part: y is admitted throughout; the second is `Unchanged`
+-- RULE 9.5, its first part: y is a reserved thread, admitted throughout; the second is `Unchanged`
 pub record Present (s : Scheduler) (cs : List Call) (y : ℕ) : Type 0 where
   pub reserved : T (reservedAt s y)
   pub keeps : T (throughout (keepsAdmitted y) (s .running) (trace s cs))
+
+-- RULE 9.8: a is a best-effort thread, runnable throughout: so in the first state, no remove names it, and it neither blocks nor exits
+pub record Ready (s : Scheduler) (cs : List Call) (a : ℕ) : Type 0 where
+  pub effort : T (effortAt s a)
+  pub runnable : T (runnableAt s a)
+  pub keeps : T (throughout (keepsReady a) (s .running) (trace s cs))
 
 -- RULE 9.6: what x is owed, and the limit on y beside it. f is `reservationAt s x`, g is `reservationAt s y`.
 abbrev pub Owed : Scheduler → List Call → ℕ → Type 0
@@ -141,3 +157,11 @@ Second s cs x y =
     ≤ reservationAt s y * ticksBy x (s .running) (trace s cs)
     + 2 * reservationAt s x * reservationAt s y * s .settings .thousandth
     + reservationAt s x * overrunsBy y (s .running) (trace s cs)
+
+-- RULE 9.9: by how much a may be ahead of b, each counted at the other's weight. v is `weightAt s a`, w is `weightAt s b`; A and B are the
+-- ticks of their reports, and `limitOf` is P + O.
+abbrev pub Fair : Scheduler → List Call → ℕ → ℕ → Type 0
+Fair s cs a b =
+    weightAt s b * ticksBy a (s .running) (trace s cs)
+    ≤ weightAt s a * ticksBy b (s .running) (trace s cs)
+    + (weightAt s a + weightAt s b) * limitOf (s .settings)

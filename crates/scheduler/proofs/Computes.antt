@@ -3,11 +3,15 @@
 use Rattle.base.specs.Checks.{within, firstOf}
 use Rattle.base.specs.Lists.{member, distinct, without, everyOf, everyBelow, sumBelow, first, passed}
 use Rattle.quota.specs.Quota.{natOf, leftOf, isUsedUp, afterReport, cutTo}
+use Rattle.fair.specs.Tags.{cost, finishTag, startTag, better, choose, firstOr, counted, timeAfter, tagOk}
 use Rattle.scheduler.specs.State.{
   admittedAt,
   blockedAt,
   runnableAt,
   reservedAt,
+  effortAt,
+  weightAt,
+  tagAt,
   reservationAt,
   allotmentAt,
   openAt,
@@ -28,6 +32,7 @@ use Rattle.scheduler.specs.Sound.{
   ceilingsIn,
   groupOk,
   groupsOk,
+  effortOk,
   threadOk,
   listOk,
   runningOk,
@@ -41,17 +46,28 @@ use Rattle.scheduler.specs.Effects.{
   offList,
   join,
   newThread,
+  effortThread,
   wokenThread,
   changedThread,
   usedUp,
   renewed,
   allotmentAfter,
   chargedThread,
+  spentThread,
+  aside,
   charged,
   exited,
+  listReported,
+  effortReported,
   reported,
+  removed,
+  firstListed,
+  readyAt,
+  firstEffort,
   chosen,
+  efforts,
   passedOver,
+  timeWith,
   effect,
   started,
 }
@@ -62,7 +78,7 @@ unfolding within firstOf member distinct without everyOf everyBelow sumBelow fir
 lists = tt
 
 unfoldable pub state : Unit {0}
-unfolding natOf admittedAt blockedAt runnableAt reservedAt reservationAt allotmentAt openAt listed sliceAt usedMost
+unfolding natOf admittedAt blockedAt runnableAt reservedAt effortAt weightAt tagAt reservationAt allotmentAt openAt listed sliceAt usedMost
 state = tt
 
 unfoldable pub writes : Unit {0}
@@ -70,15 +86,27 @@ unfolding withThread withGroup withList withRun
 writes = tt
 
 unfoldable pub soundness : Unit {0}
-unfolding sound shapeOk settingsOk groupsOk groupOk threadOk listOk runningOk load reservedIn ceilingsIn threadIn childOf
+unfolding sound shapeOk settingsOk groupsOk groupOk effortOk tagOk threadOk listOk runningOk load reservedIn ceilingsIn threadIn childOf
 soundness = tt
 
 unfoldable pub charges : Unit {0}
-unfolding leftOf isUsedUp afterReport usedUp renewed allotmentAfter chargedThread charged exited reported
+unfolding leftOf isUsedUp afterReport usedUp renewed allotmentAfter chargedThread spentThread aside charged exited
 charges = tt
 
+unfoldable pub reports : Unit {0}
+unfolding listReported effortReported reported
+reports = tt
+
+unfoldable pub tags : Unit {0}
+unfolding cost finishTag startTag
+tags = tt
+
+unfoldable pub choices : Unit {0}
+unfolding better choose firstOr firstListed readyAt firstEffort chosen efforts counted passedOver timeAfter timeWith
+choices = tt
+
 unfoldable pub effects : Unit {0}
-unfolding rear toRear offList join newThread wokenThread cutTo changedThread chosen passedOver effect started
+unfolding rear toRear offList join newThread effortThread wokenThread cutTo changedThread removed effect started
 effects = tt
 
 unfoldable pub calls : Unit {0}
@@ -86,5 +114,5 @@ unfolding step refusal checks free roomFor inUse isDispatch accept refuse startR
 calls = tt
 
 unfoldable pub computes : Unit {0}
-unfolding lists state writes soundness charges effects calls
+unfolding lists state writes soundness charges reports tags choices effects calls
 computes = tt

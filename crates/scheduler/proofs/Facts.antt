@@ -18,12 +18,15 @@ use Rattle.base.proofs.Sums.{everyBelow-at, everyBelow-of}
 use Rattle.scheduler.specs.declared.Thread.{Thread}
 use Rattle.scheduler.specs.declared.Settings.{Settings}
 use Rattle.scheduler.specs.declared.Scheduler.{Scheduler}
-use Rattle.scheduler.specs.State.{noThread, isAdmitted, threadAt, groupAt, admittedAt, reservedAt, reservationAt, allotmentAt, openAt}
+use Rattle.scheduler.specs.State.{noThread, isAdmitted, isRunnable, hasReservation, groupOf, weightOf, limitOf, threadAt, groupAt}
+use Rattle.scheduler.specs.State.{admittedAt, reservedAt, effortAt, reservationAt, allotmentAt, openAt}
 use Rattle.quota.specs.Quota.{natOf}
+use Rattle.fair.specs.Tags.{tagUnit}
+use Rattle.fair.proofs.Tags.{Tagged, tagged, tag-ok}
 use Rattle.scheduler.specs.State.{meterLimit, meterMost, sliceMost}
 use Rattle.scheduler.specs.State.{listed, runnableAt, withThread, withList}
-use Rattle.scheduler.specs.Sound.{settingsOk, quotaOk, accountOk, load, groupOk, groupsOk, threadOk, listOk, runningOk, shapeOk}
-use Rattle.scheduler.specs.Sound.{sound}
+use Rattle.scheduler.specs.Sound.{settingsOk, quotaOk, accountOk, effortOk, load, groupOk, groupsOk, threadOk, listOk}
+use Rattle.scheduler.specs.Sound.{runningOk, shapeOk, sound}
 use Rattle.scheduler.specs.Effects.{join}
 
 -- a reserved thread's own numbers
@@ -40,11 +43,15 @@ pub record Account (t : Thread) (meter : ℕ) : Type 0 where
   pub charged : t .ticks ≤ meter - t .admission
   pub since : t .since ≤ meter - t .anchor
 
+-- a best-effort thread's weight and tag, against P + O, the virtual time and the meter
+abbrev pub TagFacts : Thread → ℕ → ℕ → ℕ → Bool → Type 0
+TagFacts t limit time meter running = Tagged limit time meter (weightOf t) (isRunnable t) running (t .tag)
+
 -- a reserved thread
 pub record ThreadFacts (s : Scheduler) (n : ℕ) : Type 0 where
   pub small : n < 64
   pub in-list : T (member n (listed s))
-  pub in-group : T (openAt s ((threadAt s n) .group))
+  pub in-group : T (openAt s (groupOf (threadAt s n)))
   pub fit : Fit (threadAt s n) (s .settings .thousandth)
 
 -- an open group
@@ -74,21 +81,39 @@ pub record Facts (s : Scheduler) : Type 0 where
   pub small : (n : ℕ) → T (admittedAt s n) → n < 64
   pub account : (n : ℕ) → T (admittedAt s n) → Account (threadAt s n) (s .meter)
   pub thread : (n : ℕ) → T (reservedAt s n) → ThreadFacts s n
+  pub effort : (n : ℕ) → T (effortAt s n) → TagFacts (threadAt s n) (limitOf (s .settings)) (s .time) (s .meter) (eqb (s .running) n)
   pub count64 : s .count ≤ 64
   pub members : T (everyOf (λ n. ltb n 64 && reservedAt s n) (listed s))
   pub once : T (distinct (listed s))
   pub run : (s .running ≡ 64 → ⊥) → RunFacts s
   pub meter : s .meter ≤ meterMost
+  pub time : s .time ≤ tagUnit * s .meter
 
--- A reserved thread is admitted; here an admitted one is reserved, too.
+-- An admitted thread is reserved or best-effort, as its reservation tells.
 
 pub reserved-admitted : (s : Scheduler) (n : ℕ) → T (reservedAt s n) → T (admittedAt s n)
 unfolding reservedAt admittedAt
-reserved-admitted s n r = r
+reserved-admitted s n r = and-l (isAdmitted (threadAt s n)) (hasReservation (threadAt s n)) r
 
-pub admitted-reserved : (s : Scheduler) (n : ℕ) → T (admittedAt s n) → T (reservedAt s n)
+pub reserved-has : (s : Scheduler) (n : ℕ) → T (reservedAt s n) → hasReservation (threadAt s n) ≡ true
+unfolding reservedAt
+reserved-has s n r = is (hasReservation (threadAt s n)) (and-r (isAdmitted (threadAt s n)) (hasReservation (threadAt s n)) r)
+
+pub effort-admitted : (s : Scheduler) (n : ℕ) → T (effortAt s n) → T (admittedAt s n)
+unfolding effortAt admittedAt
+effort-admitted s n r = and-l (isAdmitted (threadAt s n)) (not (hasReservation (threadAt s n))) r
+
+pub effort-none : (s : Scheduler) (n : ℕ) → T (effortAt s n) → hasReservation (threadAt s n) ≡ false
+unfolding effortAt
+effort-none s n r = isn't (hasReservation (threadAt s n)) (and-r (isAdmitted (threadAt s n)) (not (hasReservation (threadAt s n))) r)
+
+pub admitted-reserved : (s : Scheduler) (n : ℕ) → T (admittedAt s n) → hasReservation (threadAt s n) ≡ true → T (reservedAt s n)
 unfolding reservedAt admittedAt
-admitted-reserved s n a = a
+admitted-reserved s n a e = both (isAdmitted (threadAt s n)) (hasReservation (threadAt s n)) a (holds (hasReservation (threadAt s n)) e)
+
+pub admitted-effort : (s : Scheduler) (n : ℕ) → T (admittedAt s n) → hasReservation (threadAt s n) ≡ false → T (effortAt s n)
+unfolding effortAt admittedAt
+admitted-effort s n a e = rw e (both (isAdmitted (threadAt s n)) true a tt)
 
 -- From the tests.
 
@@ -106,11 +131,13 @@ admitted-small s e n t =
 off-fails : (s : Scheduler) (n : ℕ) → T (reservedAt s n) → member n (listed s) ≡ false → threadOk s n ≡ false
 unfolding threadOk
 off-fails s n r e =
-    rw (is (reservedAt s n) r, e) (fails (leb ((threadAt s n) .status) 2) (not (admittedAt s n) || accountOk (s .meter) (threadAt s n)))
+    rw (is (reservedAt s n) r, e)
+    (fails (leb ((threadAt s n) .status) 2) (not (admittedAt s n) || accountOk (s .meter) (threadAt s n))
+    (not (effortAt s n) || effortOk s n))
   where
-    fails : (v p : Bool) → (v && false && p) ≡ false
-    fails true p = refl
-    fails false p = refl
+    fails : (v p q : Bool) → (v && false && p && q) ≡ false
+    fails true p q = refl
+    fails false p q = refl
 
 on-list : (s : Scheduler) (n : ℕ) → T (threadOk s n) → T (reservedAt s n) → T (member n (listed s))
 on-list s n t r =
@@ -119,14 +146,15 @@ on-list s n t r =
     (λ e _. clash (threadOk s n) (is (threadOk s n) t) (off-fails s n r e))
     refl
 
--- a thread's test: its status, what is asked of a reserved thread, what of an admitted one
+-- a thread's test: its status, what is asked of a reserved thread, what of an admitted one, what of a best-effort one
 abbrev placed : Scheduler → ℕ → Bool
-placed s n = member n (listed s) && quotaOk (s .settings .thousandth) (threadAt s n) && openAt s ((threadAt s n) .group)
+placed s n = member n (listed s) && quotaOk (s .settings .thousandth) (threadAt s n) && openAt s (groupOf (threadAt s n))
 
 record Entry (s : Scheduler) (n : ℕ) : Type 0 where
   status : T (leb ((threadAt s n) .status) 2)
   held : T (reservedAt s n) → T (placed s n)
   paid : T (admittedAt s n) → T (accountOk (s .meter) (threadAt s n))
+  fair : T (effortAt s n) → T (effortOk s n)
 
 entry-of : (s : Scheduler) (n : ℕ) → T (threadOk s n) → Entry s n
 unfolding threadOk
@@ -134,11 +162,14 @@ entry-of s n t =
     let v = leb ((threadAt s n) .status) 2 in
     let h = not (reservedAt s n) || placed s n in
     let p = not (admittedAt s n) || accountOk (s .meter) (threadAt s n) in
-    let u = and-l (v && h) p t in
+    let q = not (effortAt s n) || effortOk s n in
+    let w = and-l (v && h && p) q t in
+    let u = and-l (v && h) p w in
     record {
       status = and-l v h u;
       held = implied (reservedAt s n) (placed s n) (and-r v h u);
-      paid = implied (admittedAt s n) (accountOk (s .meter) (threadAt s n)) (and-r (v && h) p t);
+      paid = implied (admittedAt s n) (accountOk (s .meter) (threadAt s n)) (and-r (v && h) p w);
+      fair = implied (effortAt s n) (effortOk s n) (and-r (v && h && p) q t);
     }
 
 ok-entry : (s : Scheduler) (n : ℕ) → Entry s n → T (threadOk s n)
@@ -146,9 +177,12 @@ unfolding threadOk
 ok-entry s n k =
     let v = leb ((threadAt s n) .status) 2 in
     let h = not (reservedAt s n) || placed s n in
-    both (v && h) (not (admittedAt s n) || accountOk (s .meter) (threadAt s n))
+    let p = not (admittedAt s n) || accountOk (s .meter) (threadAt s n) in
+    both (v && h && p) (not (effortAt s n) || effortOk s n)
+    (both (v && h) p
     (both v h (k .status) (implies (reservedAt s n) (placed s n) (k .held)))
-    (implies (admittedAt s n) (accountOk (s .meter) (threadAt s n)) (k .paid))
+    (implies (admittedAt s n) (accountOk (s .meter) (threadAt s n)) (k .paid)))
+    (implies (effortAt s n) (effortOk s n) (k .fair))
 
 thread-of : (s : Scheduler) (n : ℕ) → n < 64 → T (threadOk s n) → T (reservedAt s n) → ThreadFacts s n
 unfolding within
@@ -174,6 +208,13 @@ account-of meter t u = record {
   charged = leb→le (t .ticks) (meter - t .admission) (search (and-l, and-r));
   since = leb→le (t .since) (meter - t .anchor) (search (and-l, and-r));
 }
+
+effort-of : (s : Scheduler) (n : ℕ) → T (effortOk s n)
+    → TagFacts (threadAt s n) (limitOf (s .settings)) (s .time) (s .meter) (eqb (s .running) n)
+unfolding effortOk
+effort-of s n t =
+    let th = threadAt s n in
+    tagged (limitOf (s .settings)) (s .time) (s .meter) (weightOf th) (isRunnable th) (eqb (s .running) n) (th .tag) t
 
 group-of : (s : Scheduler) (g : ℕ) → T (groupOk s g) → T (openAt s g) → GroupFacts s g
 unfolding groupOk within
@@ -218,6 +259,7 @@ record Parts (s : Scheduler) : Type 0 where
   list : T (listOk s)
   run : T (runningOk s)
   meter : T (leb (s .meter) meterMost)
+  time : T (leb (s .time) (tagUnit * s .meter))
 
 parts : (s : Scheduler) → T (sound s) → Parts s
 unfolding sound
@@ -229,6 +271,7 @@ parts s t = record {
   list = search (and-l, and-r) depth 10;
   run = search (and-l, and-r) depth 10;
   meter = search (and-l, and-r) depth 10;
+  time = search (and-l, and-r) depth 10;
 }
 
 pub facts : (s : Scheduler) → T (sound s) → Facts s
@@ -255,11 +298,13 @@ facts s t =
       thread = λ n r.
           let l = admitted-small s ts n (reserved-admitted s n r) in
           thread-of s n l (everyBelow-at (threadOk s) 64 (k .threads) n l) r;
+      effort = λ n e. effort-of s n ((entry n (admitted-small s ts n (effort-admitted s n e))) .fair e);
       count64 = leb→le (s .count) 64 (search (and-l, and-r));
       members = search (and-l, and-r);
       once = search (and-l, and-r);
       run = run-of s (k .run);
       meter = leb→le (s .meter) meterMost (k .meter);
+      time = leb→le (s .time) (tagUnit * s .meter) (k .time);
     }
 
 -- Back to the tests.
@@ -275,8 +320,15 @@ ok-placed : (s : Scheduler) (n : ℕ) → ThreadFacts s n → T (placed s n)
 ok-placed s n k =
     let m = member n (listed s) in
     let q = quotaOk (s .settings .thousandth) (threadAt s n) in
-    both (m && q) (openAt s ((threadAt s n) .group))
+    both (m && q) (openAt s (groupOf (threadAt s n)))
     (both m q (k .in-list) (ok-quota (s .settings .thousandth) (threadAt s n) (k .fit))) (k .in-group)
+
+ok-effort : (s : Scheduler) (n : ℕ) → TagFacts (threadAt s n) (limitOf (s .settings)) (s .time) (s .meter) (eqb (s .running) n)
+    → T (effortOk s n)
+unfolding effortOk
+ok-effort s n k =
+    let th = threadAt s n in
+    tag-ok (limitOf (s .settings)) (s .time) (s .meter) (weightOf th) (isRunnable th) (eqb (s .running) n) (th .tag) k
 
 ok-group : (s : Scheduler) (g : ℕ) → (groupAt s g) .opened ≤ 1 → (T (openAt s g) → GroupFacts s g) → T (groupOk s g)
 unfolding groupOk within
@@ -324,6 +376,7 @@ sound-of s k =
       status = le→leb ((threadAt s n) .status) 2 (k .status n l);
       held = λ r. ok-placed s n (k .thread n r);
       paid = λ a. ok-account (s .meter) (threadAt s n) (k .account n a);
+      fair = λ e. ok-effort s n (k .effort n e);
     })) in
     let ru : T (runningOk s) = ok-run s (k .run) in
     search (both, le→leb) depth 16
@@ -345,7 +398,14 @@ member-reserved s k n m =
 pub member-admitted : (s : Scheduler) → Facts s → (n : ℕ) → T (member n (listed s)) → T (admittedAt s n)
 member-admitted s k n m = reserved-admitted s n (member-reserved s k n m)
 
--- and one that is not admitted is not in the list
+-- and one that has no reservation is not in the list, nor is one that is not admitted
+pub outside : (s : Scheduler) → Facts s → (n : ℕ) → hasReservation (threadAt s n) ≡ false → T (not (member n (listed s)))
+outside s k n e =
+    by (λ b. member n (listed s) ≡ b → T (not b)) (member n (listed s))
+    (λ q _. clash (hasReservation (threadAt s n)) (reserved-has s n (member-reserved s k n (holds (member n (listed s)) q))) e)
+    (λ q _. tt)
+    refl
+
 pub unlisted : (s : Scheduler) → Facts s → (n : ℕ) → admittedAt s n ≡ false → T (not (member n (listed s)))
 unlisted s k n e =
     by (λ b. member n (listed s) ≡ b → T (not b)) (member n (listed s))
@@ -374,6 +434,11 @@ settings-facts z t = (
   leb→le (z .interval) sliceMost (search (and-l, and-r)),
   ltb→lt (z .overrun) (z .thousandth) (search (and-l, and-r)),
 )
+
+-- the list's numbers are in range
+pub below-64 : (s : Scheduler) → Facts s → T (everyOf (λ n. ltb n 64) (listed s))
+below-64 s k =
+    everyOf-map (λ n. ltb n 64 && reservedAt s n) (λ n. ltb n 64) (listed s) (λ j _ u. and-l (ltb j 64) (reservedAt s j) u) (k .members)
 
 -- a check that has passed
 pub peel : (c : Check) (cs : List Check) → 0 < c .number → firstOf (c ∷ cs) ≡ 0 → (c .applies ≡ false) × (firstOf cs ≡ 0)
@@ -415,9 +480,7 @@ pub room : (s : Scheduler) → Facts s → (n : ℕ) → n < 64 → T (not (memb
 unfolding distinct everyOf
 room s k n small out =
     let d : T (distinct (n ∷ listed s)) = rw (isn't (member n (listed s)) out) (k .once) in
-    let e : T (everyOf (λ n. ltb n 64) (n ∷ listed s)) =
-    rw (lt-ltb n 64 small) (everyOf-map (λ n. ltb n 64 && reservedAt s n) (λ n. ltb n 64) (listed s)
-    (λ j _ u. and-l (ltb j 64) (reservedAt s j) u) (k .members)) in
+    let e : T (everyOf (λ n. ltb n 64) (n ∷ listed s)) = rw (lt-ltb n 64 small) (below-64 s k) in
     omega (arith, pigeons 64 (n ∷ listed s) d e, length-listed s k)
 
 pub listed-join : (s : Scheduler) → s .count < length (s .order) → (n : ℕ) → listed (join n s) ≡ listed s ++ n ∷ []

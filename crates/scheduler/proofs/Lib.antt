@@ -5,6 +5,7 @@ pub mod Passed
 pub mod Steps
 pub mod Tree
 pub mod ListRule
+pub mod EffortRule
 pub mod Soundness
 pub mod Preserved
 pub mod Room

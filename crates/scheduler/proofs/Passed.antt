@@ -1,21 +1,23 @@
--- What the checks of an accepted call say, call by call: none applies, so each is peeled off in turn. And the three ways a report can
--- end, by its reason and by whether its thread is renewed.
+-- What the checks of an accepted call say, call by call: none applies, so each is peeled off in turn. And the ways a report can end, by the
+-- kind of its thread, its reason and whether its thread is renewed; and the two ways a removal can.
 use Prim.Native.Nat.{ℕ, _≤_, _<_}
-use mathlib.Core.Path.{_≡_, sym, subst}
+use mathlib.Core.Path.{_≡_, sym}
 use mathlib.Core.List.{[]}
-use mathlib.Core.Bool.{true, false, not, _&&_, _||_}
+use mathlib.Core.Bool.{true, false, not, cond, _&&_, _||_}
 use native.Mathlib.Omega.{arith}
 use lib.Dec.{T, ltb, leb, eqb, lit<, leb→le}
 use borrow.Author.Tests.{eqb-true, eqb-false, ltb-false, leb-false, not-false}
 use Rattle.base.specs.Checks.{within, _⇒_, firstOf}
 use Rattle.base.specs.Lists.{everyBelow}
-use Rattle.base.proofs.Bools.{cases, and-l, and-r, holds, or-false-l, or-false-r}
+use Rattle.base.proofs.Bools.{by, cases, and-l, and-r, holds, or-false-l, or-false-r}
 use Rattle.scheduler.specs.declared.Scheduler.{Scheduler}
-use Rattle.scheduler.specs.State.{threadAt, admittedAt, reservedAt, openAt, usedMost, meterLimit}
+use Rattle.scheduler.specs.State.{noThread, hasReservation, threadAt, admittedAt, blockedAt, reservedAt, openAt, usedMost}
+use Rattle.scheduler.specs.State.{meterLimit, withThread}
 use Rattle.scheduler.specs.Sound.{settingsOk, threadIn, childOf, sound}
 use Rattle.scheduler.specs.Refusals.{Call, openGroup, closeGroup, admit, remove, wake, dispatch, report, change, free, roomFor}
-use Rattle.scheduler.specs.Refusals.{inUse, checks, refusal, startRefusal}
-use Rattle.scheduler.specs.Effects.{toRear, renewed, charged, exited, reported}
+use Rattle.scheduler.specs.Refusals.{admitEffort, inUse, checks, refusal, startRefusal}
+use Rattle.scheduler.specs.Effects.{toRear, offList, renewed, charged, exited, listReported, spentThread, aside}
+use Rattle.scheduler.specs.Effects.{effortReported, reported, removed}
 use Rattle.scheduler.proofs.Facts.{peel}
 
 -- an accepted call passed the soundness check and its own
@@ -49,6 +51,13 @@ unfolding checks
 wake-passed s n e =
     let c1 = peel (ltb 63 n || not (admittedAt s n) ⇒ 7) _ (lit< tt) e in
     holds (admittedAt s n) (not-false (admittedAt s n) (or-false-r (ltb 63 n) (not (admittedAt s n)) (c1 .0)))
+
+pub wake-blocked : (s : Scheduler) (n : ℕ) → firstOf (checks (wake n) s) ≡ 0 → T (blockedAt s n)
+unfolding checks
+wake-blocked s n e =
+    let c1 = peel (ltb 63 n || not (admittedAt s n) ⇒ 7) _ (lit< tt) e in
+    let c2 = peel (not (blockedAt s n) ⇒ 10) _ (lit< tt) (c1 .1) in
+    holds (blockedAt s n) (not-false (blockedAt s n) (c2 .0))
 
 pub dispatch-passed : (s : Scheduler) → firstOf (checks dispatch s) ≡ 0 → s .running ≡ 64
 unfolding checks
@@ -96,6 +105,26 @@ admit-ok s n g d e =
       positive = leb→le 1 d (and-l (leb 1 d) (leb d 1000) w);
       at-most = leb→le d 1000 (and-r (leb 1 d) (leb d 1000) w);
       fits-in = ltb-false (free s g) d (c5 .0);
+    }
+
+pub record AdmitEffortOk (s : Scheduler) (n w : ℕ) : Type 0 where
+  pub small : n < 64
+  pub fresh : admittedAt s n ≡ false
+  pub low : 1 ≤ w
+  pub high : w ≤ 16
+
+pub admit-effort-ok : (s : Scheduler) (n w : ℕ) → firstOf (checks (admitEffort n w) s) ≡ 0 → AdmitEffortOk s n w
+unfolding checks within
+admit-effort-ok s n w e =
+    let c1 = peel (ltb 63 n ⇒ 7) _ (lit< tt) e in
+    let c2 = peel (admittedAt s n ⇒ 8) _ (lit< tt) (c1 .1) in
+    let c3 = peel (not (within 1 16 w) ⇒ 4) _ (lit< tt) (c2 .1) in
+    let u = holds (leb 1 w && leb w 16) (not-false (leb 1 w && leb w 16) (c3 .0)) in
+    record {
+      small = omega (arith, ltb-false 63 n (c1 .0));
+      fresh = c2 .0;
+      low = leb→le 1 w (and-l (leb 1 w) (leb w 16) u);
+      high = leb→le w 16 (and-r (leb 1 w) (leb w 16) u);
     }
 
 pub record ChangeOk (s : Scheduler) (n d : ℕ) : Type 0 where
@@ -169,34 +198,57 @@ close-ok s n e =
       no-child = holds b (not-false b (or-false-r (not a) (not b) (c2 .0)));
     }
 
--- The three ways a report can end: in its place with what is left, at the rear with a renewed allotment, or off the list.
+-- A report of a reserved thread can end in three ways: in its place with what is left, at the rear with a renewed allotment, or off the
+-- list; one of a best-effort thread in two. A property of the state after it goes way by way.
 
-pub reported-kept : (r reason used : ℕ) (s : Scheduler) → eqb reason 3 ≡ false → renewed reason used (threadAt s r) ≡ false
-    → reported r reason used s ≡ charged r reason used s
+pub list-cases : (P : Scheduler → Type 0) (r reason used : ℕ) (s : Scheduler)
+    → (eqb reason 3 ≡ true → P (exited r used s))
+    → (eqb reason 3 ≡ false → renewed reason used (threadAt s r) ≡ true → P (toRear r (charged r reason used s)))
+    → (eqb reason 3 ≡ false → renewed reason used (threadAt s r) ≡ false → P (charged r reason used s))
+    → P (listReported r reason used s)
+unfolding listReported
+list-cases P r reason used s off rear kept =
+    cases (eqb reason 3)
+    (λ e. rw e (off e))
+    (λ e. cases (renewed reason used (threadAt s r))
+    (λ q. rw (e, q) (rear e q))
+    (λ q. rw (e, q) (kept e q)))
+
+pub effort-cases : (P : Scheduler → Type 0) (r reason used : ℕ) (s : Scheduler)
+    → (eqb reason 3 ≡ true → P (aside r used noThread s))
+    → (eqb reason 3 ≡ false → P (aside r used (spentThread s reason used (threadAt s r)) s))
+    → P (effortReported r reason used s)
+unfolding effortReported
+effort-cases P r reason used s off kept =
+    by (λ d. P (aside r used (cond d noThread (spentThread s reason used (threadAt s r))) s)) (eqb reason 3) off kept
+
+-- by the kind of the running thread
+pub kind-cases : (P : Scheduler → Type 0) (r reason used : ℕ) (s : Scheduler)
+    → (hasReservation (threadAt s r) ≡ true → P (listReported r reason used s))
+    → (hasReservation (threadAt s r) ≡ false → P (effortReported r reason used s))
+    → P (reported r reason used s)
 unfolding reported
-reported-kept r reason used s e q = rw (e, q)
+kind-cases P r reason used s a b =
+    by (λ d. P (cond d (listReported r reason used s) (effortReported r reason used s))) (hasReservation (threadAt s r)) a b
 
-pub reported-rear : (r reason used : ℕ) (s : Scheduler) → eqb reason 3 ≡ false → renewed reason used (threadAt s r) ≡ true
-    → reported r reason used s ≡ toRear r (charged r reason used s)
-unfolding reported
-reported-rear r reason used s e q = rw (e, q)
-
-pub reported-off : (r reason used : ℕ) (s : Scheduler) → eqb reason 3 ≡ true → reported r reason used s ≡ exited r used s
-unfolding reported
-reported-off r reason used s e = rw e
-
--- so a property of the state after a report goes way by way
+-- both at once
 pub reported-cases : (P : Scheduler → Type 0) (r reason used : ℕ) (s : Scheduler)
     → (eqb reason 3 ≡ true → P (exited r used s))
     → (eqb reason 3 ≡ false → renewed reason used (threadAt s r) ≡ true → P (toRear r (charged r reason used s)))
     → (eqb reason 3 ≡ false → renewed reason used (threadAt s r) ≡ false → P (charged r reason used s))
+    → (eqb reason 3 ≡ true → P (aside r used noThread s))
+    → (eqb reason 3 ≡ false → P (aside r used (spentThread s reason used (threadAt s r)) s))
     → P (reported r reason used s)
-reported-cases P r reason used s off rear kept =
-    cases (eqb reason 3)
-    (λ e. subst P (sym (reported-off r reason used s e)) (off e))
-    (λ e. cases (renewed reason used (threadAt s r))
-    (λ q. subst P (sym (reported-rear r reason used s e q)) (rear e q))
-    (λ q. subst P (sym (reported-kept r reason used s e q)) (kept e q)))
+reported-cases P r reason used s off rear kept gone spent =
+    kind-cases P r reason used s (λ _. list-cases P r reason used s off rear kept) (λ _. effort-cases P r reason used s gone spent)
+
+pub removed-cases : (P : Scheduler → Type 0) (n : ℕ) (s : Scheduler)
+    → (hasReservation (threadAt s n) ≡ true → P (offList n (withThread s n noThread)))
+    → (hasReservation (threadAt s n) ≡ false → P (withThread s n noThread))
+    → P (removed n s)
+unfolding removed
+removed-cases P n s a b =
+    by (λ d. P (cond d (offList n (withThread s n noThread)) (withThread s n noThread))) (hasReservation (threadAt s n)) a b
 
 -- an accepted start has sound settings
 pub start-passed : (m p o : ℕ) → startRefusal m p o ≡ 0 → T (settingsOk (record { interval = p; thousandth = m; overrun = o }))

@@ -1,6 +1,6 @@
 -- Every accepted call keeps a state sound (`preserved`), so every call does (`stays-sound`); a start returns a sound state. Opening and
--- closing a group go here, by the facts of the state before it with one group replaced; the other calls in Soundness.Calls and
--- Soundness.Reservation.
+-- closing a group go here, by the facts of the state before it with one group replaced; the other calls in Soundness.Calls,
+-- Soundness.Efforts and Soundness.Reservation.
 use Prim.Native.Nat.{ℕ, _+_, _-_, _≤_, _<_}
 use mathlib.Core.Path.{_≡_, refl, sym, ap, subst, _∙_}
 use mathlib.Core.Bool.{Bool, true, false, not, cond, _&&_, and-false}
@@ -15,18 +15,19 @@ use Rattle.base.proofs.Sums.{everyBelow-at, sum-update}
 use Rattle.scheduler.specs.declared.Group.{Group}
 use Rattle.scheduler.specs.declared.Scheduler.{Scheduler}
 use Rattle.scheduler.specs.State.{noGroup, threadAt, groupAt, admittedAt, reservedAt, runnableAt, reservationAt, openAt, listed}
-use Rattle.scheduler.specs.State.{usedMost, withGroup, isOpen}
+use Rattle.scheduler.specs.State.{effortAt, usedMost, withGroup, isOpen, groupOf}
 use Rattle.scheduler.specs.Sound.{settingsOk, load, threadIn, childOf, reservedIn, ceilingsIn, shapeOk, sound}
 use Rattle.scheduler.specs.Refusals.{Call, openGroup, closeGroup, admit, remove, wake, dispatch, report, change, free, refusal}
-use Rattle.scheduler.specs.Refusals.{startRefusal}
+use Rattle.scheduler.specs.Refusals.{admitEffort, startRefusal}
 use Rattle.scheduler.specs.Effects.{effect, started, unstarted}
 use Rattle.scheduler.specs.Rule.{accept, refuse, step, startReply}
 use Rattle.scheduler.proofs.Facts.{GroupFacts, Facts, facts, sound-of, open-small, carries}
 use Rattle.scheduler.proofs.Passed.{passes, remove-passed, wake-passed, report-passed, admit-ok, OpenOk, open-ok, CloseOk, close-ok}
-use Rattle.scheduler.proofs.Passed.{dispatch-early, change-ok, start-passed}
+use Rattle.scheduler.proofs.Passed.{dispatch-early, change-ok, admit-effort-ok, start-passed}
 use Rattle.scheduler.proofs.Computes.{lists, soundness}
 use Rattle.scheduler.proofs.Tree.{carried}
-use Rattle.scheduler.proofs.Soundness.Calls.{wake-facts, remove-facts, report-facts, dispatch-facts, admit-facts}
+use Rattle.scheduler.proofs.Soundness.Calls.{admit-facts}
+use Rattle.scheduler.proofs.Soundness.Efforts.{admit-effort-facts, wake-facts, remove-facts, report-facts, dispatch-facts}
 use Rattle.scheduler.proofs.Soundness.Reservation.{change-facts}
 use Rattle.scheduler.proofs.Steps.{step-state, refused-state}
 
@@ -39,7 +40,7 @@ record Regrouped (s : Scheduler) (n : ℕ) (r : Group) : Type 0 where
   not-root : n ≡ 0 → ⊥
   -- an open group other than n stays a parent of what it was a parent of
   parents : (g : ℕ) → g < 16 → T (openAt s g) → (g ≡ n → ⊥) → (groupAt s g) .parent ≡ n → g ≡ 0
-  threads : (i : ℕ) → i < 64 → T (reservedAt s i) → (threadAt s i) .group ≡ n → ⊥
+  threads : (i : ℕ) → i < 64 → T (reservedAt s i) → groupOf (threadAt s i) ≡ n → ⊥
   fits-in : (g : ℕ) → T (openAt s g) → load s g + ceilingOf n r g ≤ (groupAt s g) .ceiling + ceilingOf n (groupAt s n) g
   own-flag : r .opened ≤ 1
   own : T (isOpen r) → (1 ≤ r .ceiling) × (r .ceiling ≤ 1000) × (r .parent < n) × T (openAt s (r .parent)) × (load s n ≤ r .ceiling)
@@ -130,7 +131,7 @@ module _ (s : Scheduler) (k : Facts s) (n : ℕ) (r : Group) (c : Regrouped s n 
           }
 
   regrouped-facts : Facts s′
-  unfolding s′ withGroup listed admittedAt reservedAt runnableAt
+  unfolding s′ withGroup listed admittedAt reservedAt effortAt runnableAt
   regrouped-facts = record {
     threads64 = k .threads64;
     groups16 = length-set (s .groups) n r ∙ k .groups16;
@@ -148,12 +149,13 @@ module _ (s : Scheduler) (k : Facts s) (n : ℕ) (r : Group) (c : Regrouped s n 
     status = k .status;
     small = k .small;
     account = k .account;
+    effort = k .effort;
     thread = λ i a.
         let q = k .thread i a in
         record {
           small = q .small;
           in-list = q .in-list;
-          in-group = opens ((threadAt s i) .group) (c .threads i (q .small) a) (q .in-group);
+          in-group = opens (groupOf (threadAt s i)) (c .threads i (q .small) a) (q .in-group);
           fit = q .fit;
         };
     count64 = k .count64;
@@ -163,6 +165,7 @@ module _ (s : Scheduler) (k : Facts s) (n : ℕ) (r : Group) (c : Regrouped s n 
         let u = k .run ne in
         record { small = u .small; admitted = u .admitted; runnable = u .runnable; early = u .early };
     meter = k .meter;
+    time = k .time;
   }
 
 -- Open.
@@ -214,9 +217,9 @@ child : (s : Scheduler) (n g : ℕ) → T (openAt s g) → (g ≡ 0 → ⊥) →
 unfolding childOf
 child s n g o ne z = rw (is (openAt s g) o, is (ltb 0 g) (lt→ltb 0 g (omega (arith, ne))), eq-eqb ((groupAt s g) .parent) n z) tt
 
-inside : (s : Scheduler) (n i : ℕ) → T (reservedAt s i) → (threadAt s i) .group ≡ n → T (threadIn s n i)
+inside : (s : Scheduler) (n i : ℕ) → T (reservedAt s i) → groupOf (threadAt s i) ≡ n → T (threadIn s n i)
 unfolding threadIn
-inside s n i a z = rw (is (reservedAt s i) a, eq-eqb ((threadAt s i) .group) n z) tt
+inside s n i a z = rw (is (reservedAt s i) a, eq-eqb (groupOf (threadAt s i)) n z) tt
 
 close-facts : (s : Scheduler) → Facts s → (n : ℕ) → CloseOk s n → Facts (effect (closeGroup n) s)
 unfolding effect s′
@@ -264,7 +267,7 @@ preserved c s e = sound-of (effect c s) (go c e)
     go (remove n) e =
         let ok = passes (remove n) s e in
         let c = remove-passed s n (ok .1) in
-        remove-facts s (facts s (ok .0)) n ((facts s (ok .0)) .small n (c .0)) (c .0) (c .1)
+        remove-facts s (facts s (ok .0)) n (c .0) (c .1)
     go (wake n) e =
         let ok = passes (wake n) s e in
         let a = wake-passed s n (ok .1) in
@@ -279,6 +282,9 @@ preserved c s e = sound-of (effect c s) (go c e)
     go (change n d) e =
         let ok = passes (change n d) s e in
         change-facts s (facts s (ok .0)) n d (change-ok s n d (ok .1))
+    go (admitEffort n w) e =
+        let ok = passes (admitEffort n w) s e in
+        admit-effort-facts s (facts s (ok .0)) n w (admit-effort-ok s n w (ok .1))
 
 -- So a sound state stays sound through every call, accepted or refused.
 pub stays-sound : (c : Call) (s : Scheduler) → T (sound s) → T (sound ((step c s) .state))
@@ -292,7 +298,7 @@ stays-sound c s t =
 
 -- everything but the settings is computed
 pub started-sound : (m p o : ℕ) → T (settingsOk (record { interval = p; thousandth = m; overrun = o })) → T (sound (started m p o))
-unfolding lists soundness openAt admittedAt reservedAt listed started
+unfolding lists soundness openAt admittedAt reservedAt effortAt listed started
 started-sound m p o a = rw (is (settingsOk (record { interval = p; thousandth = m; overrun = o })) a) tt
 
 -- An accepted start returns a sound state; a refused one a state that is not.

@@ -2,49 +2,91 @@
 use Prim.Native.Nat.{ℕ, _*_, _≤_, _<_}
 use mathlib.Core.Path.{_≡_}
 use mathlib.Core.List.{List}
-use mathlib.Core.Bool.{Bool, true, false, not, _&&_, _||_}
+use mathlib.Core.Bool.{Bool, true, false, not, cond, _&&_, _||_}
 use lib.ListN.{getD}
-use lib.Dec.{T, ltb, eqb}
-use Rattle.base.specs.Lists.{member, distinct, everyOf, everyBelow}
+use lib.Dec.{T, ltb, leb, eqb}
+use Rattle.base.specs.Lists.{member, distinct, everyOf, everyBelow, sumBelow}
 use Rattle.scheduler.specs.declared.Thread.{Thread}
 use Rattle.scheduler.specs.declared.Group.{Group}
 use Rattle.scheduler.specs.declared.Scheduler.{Scheduler}
 use Rattle.quota.specs.Quota.{natOf}
-use Rattle.scheduler.specs.State.{reservedAt, runnableAt, openAt, listed, meterMost, chargeMost}
+use Rattle.fair.specs.Tags.{tagUnit, choose, tagOk}
+use Rattle.scheduler.specs.State.{noThread, isRunnable, hasReservation, isEffort, groupOf, weightOf, limitOf, reservedAt, runnableAt}
+use Rattle.scheduler.specs.State.{openAt, listed, meterMost, chargeMost}
 use Rattle.scheduler.specs.Sound.{quotaOk, accountOk, threadOk, reservedIn, sound}
+use Rattle.scheduler.specs.Effects.{chargedThread, spentThread}
 
 -- the state s with these parts in place of its own
-abbrev pub given : Scheduler → List Thread → List Group → ℕ → ℕ → ℕ → Scheduler
-given s threads groups m meter running = record {
+abbrev pub given : Scheduler → List Thread → List Group → ℕ → ℕ → ℕ → ℕ → Scheduler
+given s threads groups m meter time running = record {
   threads = threads;
   order = s .order;
   groups = groups;
   meter = meter;
+  time = time;
   settings = record { interval = s .settings .interval; thousandth = m; overrun = s .settings .overrun };
   count = s .count;
   running = running;
 }
 
 abbrev pub having : Scheduler → List Group → Scheduler
-having s groups = given s (s .threads) groups (s .settings .thousandth) (s .meter) (s .running)
+having s groups = given s (s .threads) groups (s .settings .thousandth) (s .meter) (s .time) (s .running)
 
--- the numbers of an admitted thread: its reservation and allotment, its account, its group
+-- the numbers of a reserved thread: its reservation and allotment, its account, its group
 abbrev pub boundsOk : ℕ → ℕ → Thread → Bool
-boundsOk m meter t = quotaOk m t && (accountOk meter t && ltb (t .group) 16)
+boundsOk m meter t = quotaOk m t && (accountOk meter t && ltb (groupOf t) 16)
 
--- what the charge of a report requires of m, of the ticks used and of the thread
-pub record Chargeable (m used : ℕ) (t : Thread) : Type 0 where
-  pub thousandth : m ≤ 1000
+-- a number outside the list: free, or a best-effort thread's, whose account and tag are in order
+abbrev pub unlistedOk : ℕ → ℕ → ℕ → ℕ → Bool → Thread → Bool
+unlistedOk limit meter time most running t =
+    eqb (t .status) 0
+    || (leb (t .status) 2
+    && eqb (t .reservation) 0
+    && (accountOk meter t && tagOk limit time most (weightOf t) (isRunnable t) running (t .tag)))
+
+-- what a report requires of the ticks used and of the thread's account; of m and a reserved thread's quota; of a best-effort one's tag
+pub record Accounted (used : ℕ) (t : Thread) : Type 0 where
   pub short : used ≤ chargeMost
   pub ticks : t .ticks ≤ meterMost
   pub since : t .since ≤ meterMost
+
+pub record Chargeable (m used : ℕ) (t : Thread) : Type 0 where
+  pub thousandth : m ≤ 1000
+  pub short : used ≤ chargeMost
   pub reservation : t .reservation ≤ 1000
   pub some : 1 ≤ natOf (t .allotment)
   pub bounded : natOf (t .allotment) ≤ t .reservation * m
 
+pub record Spendable (t : Thread) : Type 0 where
+  pub tagged : t .tag ≤ tagUnit * meterMost
+
+pub record Reportable (m used : ℕ) (t : Thread) : Type 0 where
+  pub account : Accounted used t
+  pub quota : hasReservation t ≡ true → Chargeable m used t
+  pub tag : hasReservation t ≡ false → Spendable t
+
+-- a thread's entry after a report
+abbrev pub leftOver : Scheduler → ℕ → ℕ → Thread → Thread
+leftOver s reason used t =
+    cond (eqb reason 3) noThread (cond (hasReservation t) (chargedThread s reason used t) (spentThread s reason used t))
+
+-- of a table of threads, the runnable best-effort one that goes first, or 64, and how many best-effort ones there are
+abbrev pub bestOf : List Thread → ℕ
+bestOf threads =
+    choose (λ n. isEffort (getD threads n noThread) && isRunnable (getD threads n noThread)) (λ n. (getD threads n noThread) .tag) 64
+
+abbrev pub effortsOf : List Thread → ℕ
+effortsOf threads = sumBelow (λ n. cond (isEffort (getD threads n noThread)) 1 0) 64
+
 -- an array of flags marks the numbers that stand in the list
 abbrev pub Marks : List Bool → List ℕ → Type 0
 Marks seen l = (n : ℕ) → n < 64 → getD seen n false ≡ member n l
+
+-- the arguments of the pass over the threads are those of a state: the marks of its list, P + O, the most that a tag may be
+pub record Handed (s : Scheduler) (seen : List Bool) (limit meter most : ℕ) : Type 0 where
+  pub marks : Marks seen (listed s)
+  pub limited : limitOf (s .settings) ≡ limit
+  pub bounded : tagUnit * meter ≡ most
 
 -- the pass over the list: whether it holds thread numbers, each once, and which
 pub record ListSeen (l : List ℕ) (ok : Bool) (seen : List Bool) : Type 0 where

@@ -7,10 +7,11 @@ use lib.Dec.{ltb, leb, eqb}
 use Rattle.base.specs.Checks.{within, Check, _⇒_, firstOf}
 use Rattle.base.specs.Lists.{everyBelow}
 use Rattle.scheduler.specs.declared.Scheduler.{Scheduler}
-use Rattle.scheduler.specs.State.{threadAt, groupAt, admittedAt, reservedAt, blockedAt, reservationAt, openAt, usedMost, meterLimit}
+use Rattle.fair.specs.Tags.{weightMost}
+use Rattle.scheduler.specs.State.{groupOf, threadAt, groupAt, admittedAt, reservedAt, blockedAt, reservationAt, openAt, usedMost, meterLimit}
 use Rattle.scheduler.specs.Sound.{settingsOk, threadIn, childOf, load, sound}
 
--- The eight calls of a stretch. Start makes a state of its own.
+-- The nine calls of a stretch. Start makes a state of its own.
 pub data Call : Type 0 where
   openGroup : (number parent ceiling : ℕ) → Call
   closeGroup : (number : ℕ) → Call
@@ -20,6 +21,7 @@ pub data Call : Type 0 where
   dispatch : Call
   report : (reason used : ℕ) → Call
   change : (number reservation : ℕ) → Call
+  admitEffort : (number weight : ℕ) → Call
 
 -- RULE 3.3: what a group has left to give
 unfoldable pub free : Scheduler → ℕ → ℕ
@@ -27,7 +29,7 @@ free s g = (groupAt s g) .ceiling - load s g
 
 -- RULE 2.11: and what it has for a thread of its own, whose old reservation counts as free
 unfoldable pub roomFor : Scheduler → ℕ → ℕ
-roomFor s n = free s ((threadAt s n) .group) + reservationAt s n
+roomFor s n = free s (groupOf (threadAt s n)) + reservationAt s n
 
 -- a thread or a child group counts in it
 unfoldable pub inUse : Scheduler → ℕ → Bool
@@ -63,6 +65,7 @@ checks (change n f) s =
     ∷ (not (within 1 1000 f) ⇒ 4)
     ∷ (ltb (roomFor s n) f ⇒ 5)
     ∷ []
+checks (admitEffort n w) s = (ltb 63 n ⇒ 7) ∷ (admittedAt s n ⇒ 8) ∷ (not (within 1 weightMost w) ⇒ 4) ∷ []
 
 -- the refusal's number, or 0
 unfoldable pub refusal : Call → Scheduler → ℕ

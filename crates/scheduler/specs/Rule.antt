@@ -4,8 +4,8 @@ use mathlib.Core.Bool.{Bool, true, false, cond}
 use lib.Dec.{eqb}
 use Rattle.scheduler.specs.declared.Scheduler.{Scheduler}
 use Rattle.scheduler.specs.State.{sliceAt}
-use Rattle.scheduler.specs.Refusals.{Call, openGroup, closeGroup, admit, remove, wake, dispatch, report, change, refusal}
-use Rattle.scheduler.specs.Refusals.{startRefusal}
+use Rattle.scheduler.specs.Refusals.{Call, openGroup, closeGroup, admit, remove, wake, dispatch, report, change, admitEffort}
+use Rattle.scheduler.specs.Refusals.{refusal, startRefusal}
 use Rattle.scheduler.specs.Effects.{chosen, passedOver, effect, started, unstarted}
 
 -- answer: 0 accepted, or the refusal
@@ -25,8 +25,9 @@ isDispatch (wake n) = false
 isDispatch dispatch = true
 isDispatch (report r u) = false
 isDispatch (change n f) = false
+isDispatch (admitEffort n w) = false
 
--- RULE 6.5: thread, slice and threads before it are 0 but for an accepted dispatch; an idle one has 64, 0 and the list's length
+-- RULE 6.5: thread, slice and threads before it are 0 but for an accepted dispatch; an idle one has 64, 0 and the number of threads
 unfoldable pub accept : Call → Scheduler → Reply
 accept c s = record {
   answer = 0;

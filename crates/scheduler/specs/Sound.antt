@@ -9,8 +9,10 @@ use Rattle.base.specs.Lists.{member, distinct, everyOf, everyBelow, sumBelow}
 use Rattle.scheduler.specs.declared.Settings.{Settings}
 use Rattle.scheduler.specs.declared.Thread.{Thread}
 use Rattle.scheduler.specs.declared.Scheduler.{Scheduler}
-use Rattle.scheduler.specs.State.{threadAt, groupAt, admittedAt, runnableAt, reservedAt, reservationAt, openAt, listed}
+use Rattle.scheduler.specs.State.{isRunnable, groupOf, weightOf, limitOf, threadAt, groupAt, admittedAt, runnableAt, reservedAt, effortAt}
+use Rattle.scheduler.specs.State.{reservationAt, openAt, listed}
 use Rattle.quota.specs.Quota.{natOf}
+use Rattle.fair.specs.Tags.{tagUnit, tagOk}
 use Rattle.scheduler.specs.State.{meterLimit, meterMost, sliceMost}
 
 -- RULE 5.1, 1
@@ -19,7 +21,7 @@ settingsOk k = within 1 1000 (k .thousandth) && within 1 sliceMost (k .interval)
 
 -- thread n counts in group g; group c is a child of group g
 unfoldable pub threadIn : Scheduler → ℕ → ℕ → Bool
-threadIn s g n = reservedAt s n && eqb ((threadAt s n) .group) g
+threadIn s g n = reservedAt s n && eqb (groupOf (threadAt s n)) g
 
 unfoldable pub childOf : Scheduler → ℕ → ℕ → Bool
 childOf s g c = openAt s c && ltb 0 c && eqb ((groupAt s c) .parent) g
@@ -57,13 +59,20 @@ accountOk meter t =
     && leb (t .ticks) (meter - t .admission)
     && leb (t .since) (meter - t .anchor)
 
--- A reserved thread stands in the list and has a quota and an open group; an admitted one has an account.
+-- RULE 5.1, 9: a best-effort thread's weight and tag
+unfoldable pub effortOk : Scheduler → ℕ → Bool
+effortOk s n =
+    tagOk (limitOf (s .settings)) (s .time) (tagUnit * s .meter) (weightOf (threadAt s n)) (isRunnable (threadAt s n)) (eqb (s .running) n)
+    ((threadAt s n) .tag)
+
+-- A reserved thread stands in the list and has a quota and an open group; an admitted one has an account; a best-effort one has its tag.
 unfoldable pub threadOk : Scheduler → ℕ → Bool
 threadOk s n =
     leb ((threadAt s n) .status) 2
     && (not (reservedAt s n)
-    || (member n (listed s) && quotaOk (s .settings .thousandth) (threadAt s n) && openAt s ((threadAt s n) .group)))
+    || (member n (listed s) && quotaOk (s .settings .thousandth) (threadAt s n) && openAt s (groupOf (threadAt s n))))
     && (not (admittedAt s n) || accountOk (s .meter) (threadAt s n))
+    && (not (effortAt s n) || effortOk s n)
 
 -- RULE 5.1, 5: each once, and nothing else
 unfoldable pub listOk : Scheduler → Bool
@@ -88,3 +97,4 @@ sound s =
     && listOk s
     && runningOk s
     && leb (s .meter) meterMost
+    && leb (s .time) (tagUnit * s .meter)

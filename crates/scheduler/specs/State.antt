@@ -1,8 +1,9 @@
 -- RULE 1.5: the state, read by thread and group number, and written by thread, group, list and run. m is `thousandth`, P is `interval`,
--- O is `overrun`, f is `reservation`.
+-- O is `overrun`, f is `reservation`, the virtual time is `time`. An admitted thread that reserves nothing is a best-effort one, and the
+-- byte of its entry that holds a reserved thread's group holds its weight.
 use Prim.Native.Nat.{ℕ, _+_, _*_, min}
 use mathlib.Core.List.{List}
-use mathlib.Core.Bool.{Bool, _&&_}
+use mathlib.Core.Bool.{Bool, not, cond, _&&_}
 use lib.ListN.{getD, take, set}
 use lib.Dec.{ltb, eqb}
 use lib.IntN.{pos}
@@ -32,7 +33,17 @@ chargeMost = 1000999
 
 -- RULE 1.6: a freed entry is all zeros.
 abbrev pub noThread : Thread
-noThread = record { admission = 0; anchor = 0; ticks = 0; since = 0; allotment = pos 0; reservation = 0; group = 0; status = 0 }
+noThread = record {
+  admission = 0;
+  anchor = 0;
+  ticks = 0;
+  since = 0;
+  allotment = pos 0;
+  reservation = 0;
+  «group_or_weight» = 0;
+  status = 0;
+  tag = 0;
+}
 
 abbrev pub noGroup : Group
 noGroup = record { ceiling = 0; parent = 0; opened = 0 }
@@ -41,9 +52,22 @@ noGroup = record { ceiling = 0; parent = 0; opened = 0 }
 abbrev pub isAdmitted : Thread → Bool
 isAdmitted t = ltb 0 (t .status)
 
--- It has a reservation in a group and stands in the list: here every admitted thread.
+-- RULE 2.12: a reserved thread has a reservation in a group and stands in the list; any other admitted one is a best-effort thread.
+abbrev pub hasReservation : Thread → Bool
+hasReservation t = ltb 0 (t .reservation)
+
 abbrev pub isReserved : Thread → Bool
-isReserved t = isAdmitted t
+isReserved t = isAdmitted t && hasReservation t
+
+abbrev pub isEffort : Thread → Bool
+isEffort t = isAdmitted t && not (hasReservation t)
+
+-- a reserved thread's group, and a best-effort one's weight
+abbrev pub groupOf : Thread → ℕ
+groupOf t = t .«group_or_weight»
+
+abbrev pub weightOf : Thread → ℕ
+weightOf t = t .«group_or_weight»
 
 abbrev pub isRunnable : Thread → Bool
 isRunnable t = eqb (t .status) 1
@@ -72,6 +96,15 @@ blockedAt s n = isBlocked (threadAt s n)
 unfoldable pub reservedAt : Scheduler → ℕ → Bool
 reservedAt s n = isReserved (threadAt s n)
 
+unfoldable pub effortAt : Scheduler → ℕ → Bool
+effortAt s n = isEffort (threadAt s n)
+
+unfoldable pub weightAt : Scheduler → ℕ → ℕ
+weightAt s n = weightOf (threadAt s n)
+
+unfoldable pub tagAt : Scheduler → ℕ → ℕ
+tagAt s n = (threadAt s n) .tag
+
 unfoldable pub reservationAt : Scheduler → ℕ → ℕ
 reservationAt s n = (threadAt s n) .reservation
 
@@ -90,21 +123,26 @@ quantum s f = f * s .settings .thousandth
 unfoldable pub listed : Scheduler → List ℕ
 listed s = take (s .count) (s .order)
 
--- RULE 2.4: the smaller of its allotment and P
+-- RULE 2.4, 2.12: the smaller of its allotment and P; of a best-effort thread P
 unfoldable pub sliceAt : Scheduler → ℕ → ℕ
-sliceAt s n = min (allotmentAt s n) (s .settings .interval)
+sliceAt s n = cond (hasReservation (threadAt s n)) (min (allotmentAt s n) (s .settings .interval)) (s .settings .interval)
 
 -- RULE 2.5: the most that a report may use
 unfoldable pub usedMost : Scheduler → ℕ → ℕ
 usedMost s n = sliceAt s n + s .settings .overrun
 
+-- P + O, the most that a report of a best-effort thread may use
+abbrev pub limitOf : Settings → ℕ
+limitOf k = k .interval + k .overrun
+
 -- the state with these fields
-abbrev pub stateOf : List Thread → List ℕ → List Group → ℕ → Settings → ℕ → ℕ → Scheduler
-stateOf threads order groups meter settings count running = record {
+abbrev pub stateOf : List Thread → List ℕ → List Group → ℕ → ℕ → Settings → ℕ → ℕ → Scheduler
+stateOf threads order groups meter time settings count running = record {
   threads = threads;
   order = order;
   groups = groups;
   meter = meter;
+  time = time;
   settings = settings;
   count = count;
   running = running;
@@ -112,13 +150,13 @@ stateOf threads order groups meter settings count running = record {
 
 -- the state with one thread, one group, the list or the run replaced
 unfoldable pub withThread : Scheduler → ℕ → Thread → Scheduler
-withThread s n t = stateOf (set (s .threads) n t) (s .order) (s .groups) (s .meter) (s .settings) (s .count) (s .running)
+withThread s n t = stateOf (set (s .threads) n t) (s .order) (s .groups) (s .meter) (s .time) (s .settings) (s .count) (s .running)
 
 unfoldable pub withGroup : Scheduler → ℕ → Group → Scheduler
-withGroup s n g = stateOf (s .threads) (s .order) (set (s .groups) n g) (s .meter) (s .settings) (s .count) (s .running)
+withGroup s n g = stateOf (s .threads) (s .order) (set (s .groups) n g) (s .meter) (s .time) (s .settings) (s .count) (s .running)
 
 unfoldable pub withList : Scheduler → List ℕ → ℕ → Scheduler
-withList s order count = stateOf (s .threads) order (s .groups) (s .meter) (s .settings) count (s .running)
+withList s order count = stateOf (s .threads) order (s .groups) (s .meter) (s .time) (s .settings) count (s .running)
 
-unfoldable pub withRun : Scheduler → ℕ → ℕ → Scheduler
-withRun s running meter = stateOf (s .threads) (s .order) (s .groups) meter (s .settings) (s .count) running
+unfoldable pub withRun : Scheduler → ℕ → ℕ → ℕ → Scheduler
+withRun s running meter time = stateOf (s .threads) (s .order) (s .groups) meter time (s .settings) (s .count) running

@@ -1,4 +1,4 @@
-// Change: another reservation for a thread that does not run. It keeps its place and its status; its allotment is cut to the new quantum
+// Change: another reservation for a reserved thread that does not run. It keeps its place and its status; its allotment is cut to the new quantum
 // and never raised, and its anchor is set.
 ghost use mathlib.Core.Path.{_≡_};
 ghost use mathlib.Core.Bool.{true, not, cond, _||_};
@@ -16,10 +16,10 @@ use crate::groups;
 use crate::refusal;
 use crate::threads;
 
-// The number that a change of a thread of a status is refused with, or 0. `room` is what the thread's group has free, its old reservation
-// counted as free.
-fn change_code(ok: bool, number: u64, status: u8, running: u32, reservation: u64, room: u64) -> u32
-    ensures { λ r. ⌜ r ≡ firstOf ((not ok ⇒ 16) ∷ (ltb 63 number || not (ltb 0 status) ⇒ 7) ∷ (eqb running number ⇒ 9)
+// The number that a change of a thread is refused with, or 0. `reserved` says whether it is a reserved one; `room` is what its group has
+// free, its old reservation counted as free.
+fn change_code(ok: bool, number: u64, reserved: bool, running: u32, reservation: u64, room: u64) -> u32
+    ensures { λ r. ⌜ r ≡ firstOf ((not ok ⇒ 16) ∷ (ltb 63 number || not reserved ⇒ 7) ∷ (eqb running number ⇒ 9)
         ∷ (not (within 1 1000 reservation) ⇒ 4) ∷ (ltb room reservation ⇒ 5) ∷ []) ⌝ }
 {
     let runs = running as u64 == number;
@@ -30,7 +30,7 @@ fn change_code(ok: bool, number: u64, status: u8, running: u32, reservation: u64
     if Scheduler::THREADS as u64 <= number {
         return refusal::NO_THREAD;
     }
-    if status == 0 {
+    if !reserved {
         return refusal::NO_THREAD;
     }
     if runs {
@@ -75,12 +75,12 @@ impl Scheduler {
         let groups = self.groups;
         let at = (number % 64) as usize;
         let old = self.threads[at];
-        let group = old.group as u64;
+        let group = old.group_or_weight as u64;
         let used = groups::load_of(groups, reserved, group);
         let free = groups::free_in(groups, group, used);
         let own = old.reservation as u64;
         let room = free + own;
-        let code = change_code(test.ok, number, old.status, self.running, reservation, room);
+        let code = change_code(test.ok, number, old.is_reserved(), self.running, reservation, room);
         let thread = old.changed_if(code == 0, self.meter, self.settings.thousandth, reservation);
         self.threads[at] = thread;
         Answered {

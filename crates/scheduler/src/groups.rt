@@ -97,8 +97,9 @@ impl Thread {
                 since: 0,
                 allotment: quota::quantum_of(reservation as u16, thousandth) as i32,
                 reservation: reservation as u16,
-                group: group as u8,
+                group_or_weight: group as u8,
                 status: Self::RUNNABLE,
+                tag: 0,
             };
         }
         self

@@ -4,6 +4,7 @@ ghost use Rattle.scheduler.specs.State.{defaultSettings};
 
 pub mod batch;
 pub mod change;
+pub mod effort;
 pub mod groups;
 pub mod refusal;
 pub mod sound;
@@ -51,7 +52,9 @@ impl Settings {
 }
 
 // A thread. status: 0 free, 1 runnable, 2 blocked. admission and anchor are the meter at admission and at the anchor;
-// ticks and since are the thread's ticks since each. In a sound state the allotment of an admitted thread is 1 to its quantum.
+// ticks and since are the thread's ticks since each. An admitted thread with a reservation is a reserved one: group_or_weight is its group,
+// and in a sound state its allotment is 1 to its quantum. One whose reservation is 0 is a best-effort thread: group_or_weight is its weight, 1
+// to 16, its allotment is not looked at, and tag is its start tag while it is runnable, its last finish tag while it is blocked.
 #[repr(C)]
 pub struct Thread {
     pub admission: u64,
@@ -60,8 +63,9 @@ pub struct Thread {
     pub since: u64,
     pub allotment: i32,
     pub reservation: u16,
-    pub group: u8,
+    pub group_or_weight: u8,
     pub status: u8,
+    pub tag: u64,
 }
 
 // A group. opened: 0 closed, 1 open.
@@ -72,13 +76,15 @@ pub struct Group {
     pub opened: u8,
 }
 
-// The list is the first `count` entries of `order`, front first. running: the running thread's number, or 64.
+// The list is the first `count` entries of `order`, front first. running: the running thread's number, or 64. time: the virtual time, the
+// start tag of the last best-effort thread that was dispatched.
 #[repr(C)]
 pub struct Scheduler {
     pub threads: [Thread; 64],
     pub order: [u8; 64],
     pub groups: [Group; 16],
     pub meter: u64,
+    pub time: u64,
     pub settings: Settings,
     pub count: u32,
     pub running: u32,

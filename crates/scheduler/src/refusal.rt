@@ -22,7 +22,7 @@ pub const NO_GROUP: u32 = 2;
 // The group's number is above 15, already open or not above the parent's.
 pub const GROUP_NUMBER: u32 = 3;
 
-// The ceiling, reservation or priority, or a table's number of rows, is outside its range.
+// The ceiling, reservation, weight or priority, or a table's number of rows, is outside its range.
 pub const AMOUNT: u32 = 4;
 
 // The ceiling or reservation exceeds what the group has free.
@@ -31,7 +31,7 @@ pub const NO_ROOM: u32 = 5;
 // The group has a thread or a child.
 pub const GROUP_IN_USE: u32 = 6;
 
-// The thread's number is above 63 or not admitted.
+// The thread's number is above 63 or not admitted, or the thread whose reservation is to be changed is a best-effort one.
 pub const NO_THREAD: u32 = 7;
 
 // The thread is already admitted.

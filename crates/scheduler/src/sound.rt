@@ -8,9 +8,9 @@ ghost use lib.Dec.{ltb, leb, eqb};
 ghost use Rattle.base.specs.Checks.{within};
 ghost use Rattle.scheduler.specs.declared.Scheduler.{Scheduler};
 ghost use Rattle.quota.specs.Quota.{natOf};
-ghost use Rattle.scheduler.specs.State.{listed, meterLimit, meterMost};
+ghost use Rattle.scheduler.specs.State.{meterLimit, meterMost};
 ghost use Rattle.scheduler.specs.Sound.{settingsOk, accountOk, groupsOk, sound};
-ghost use Rattle.scheduler.specs.Inner.{given, having, boundsOk, Marks, ListSeen, Sums, Small, ThreadsPass, Tested};
+ghost use Rattle.scheduler.specs.Inner.{given, having, boundsOk, unlistedOk, Handed, ListSeen, Sums, Small, ThreadsPass, Tested};
 use crate::Group;
 use crate::Scheduler;
 use crate::Settings;
@@ -83,7 +83,7 @@ fn account_ok(t: Thread, meter: u64) -> bool
     (t.ticks <= meter - admission) & (t.since <= meter - anchor)
 }
 
-// The numbers of an admitted thread.
+// The numbers of a reserved thread.
 fn bounds_ok(t: Thread, m: u32, meter: u64) -> bool
     requires { ⌜ m ≤ 1000 ⌝ }
     ensures { λ r. ⌜ r ≡ boundsOk m meter t ⌝ }
@@ -92,9 +92,31 @@ fn bounds_ok(t: Thread, m: u32, meter: u64) -> bool
     if !quota_ok(reservation, t.allotment, m) {
         return false;
     }
-    let fair = account_ok(t, meter);
-    let g = t.group as u32;
-    fair & (g < Scheduler::GROUPS)
+    let paid = account_ok(t, meter);
+    let g = t.group_or_weight as u32;
+    paid & (g < Scheduler::GROUPS)
+}
+
+// A number that does not stand in the list is free or that of a best-effort thread.
+fn unlisted_ok(t: Thread, limit: u32, meter: u64, time: u64, most: u64, running: bool) -> bool
+    ensures { λ r. ⌜ r ≡ unlistedOk limit meter time most running t ⌝ }
+{
+    let status = t.status;
+    if status == 0 {
+        return true;
+    }
+    let paid = account_ok(t, meter);
+    let ready = status == 1;
+    let tagged = fair::tag_ok(
+        limit,
+        time,
+        most,
+        t.group_or_weight,
+        ready,
+        running,
+        t.tag,
+    );
+    (status <= 2) & (t.reservation == 0) & (paid & tagged)
 }
 
 // The list's entries are thread numbers, each once.
@@ -145,17 +167,21 @@ fn passed(used: [u32; 16], ok: bool) -> Pass
     Pass { ok: ok, used: used }
 }
 
-// A free number does not stand in the list; an admitted thread does.
+// A reserved thread stands in the list, and nothing else does. `limit` is P + O, `most` the most that a tag may be.
 fn threads_pass(
     threads: [Thread; 64],
     groups: [Group; 16],
     seen: [bool; 64],
     m: u32,
+    limit: u32,
     meter: u64,
+    time: u64,
+    most: u64,
     running: u32,
 ) -> Pass
     requires { ⌜ (m ≤ 1000) × (running ≤ 64) ⌝ }
-    ensures { λ r. ⌜ ((s : Scheduler) → Marks seen (listed s) → ThreadsPass (given s threads groups m meter running) (r .ok) (r .used)) ⌝ }
+    ensures { λ r. ⌜ ((s : Scheduler) → Handed s seen limit meter most
+        → ThreadsPass (given s threads groups m meter time running) (r .ok) (r .used)) ⌝ }
 {
     let mut used = [0u32; 16];
     let mut i: usize = 0;
@@ -163,7 +189,8 @@ fn threads_pass(
         let t = threads[i];
         let status = t.status;
         if !seen[i] {
-            if status != 0 {
+            let runs = running as usize == i;
+            if !unlisted_ok(t, limit, meter, time, most, runs) {
                 return failed();
             }
             i += 1;
@@ -178,7 +205,7 @@ fn threads_pass(
         if !bounds_ok(t, m, meter) {
             return failed();
         }
-        let g = t.group as usize;
+        let g = t.group_or_weight as usize;
         let opened = groups[g].opened;
         if opened != 1 {
             return failed();
@@ -247,6 +274,12 @@ impl Scheduler {
         if Self::THREADS < count {
             return failed();
         }
+        let time = self.time;
+        let most = fair::TAG_UNIT * meter;
+        if most < time {
+            return failed();
+        }
+        let limit = settings.interval + settings.overrun as u32;
         let order = self.order;
         let list = list_seen(order, count);
         if !list.ok {
@@ -260,7 +293,10 @@ impl Scheduler {
             groups,
             seen,
             settings.thousandth as u32,
+            limit,
             meter,
+            time,
+            most,
             running,
         );
         if !pass.ok {

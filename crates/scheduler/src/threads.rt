@@ -2,25 +2,26 @@
 // old values if it is refused: so the compiler keeps one state and copies it out once. A thread number above 63 is refused
 // whatever the entry that stands for it holds.
 ghost use mathlib.Core.Path.{_≡_};
-ghost use mathlib.Core.Bool.{true, cond, _||_};
+ghost use mathlib.Core.Bool.{true, cond, _&&_, _||_};
 ghost use mathlib.Core.List.{_++_};
 ghost use Prim.Native.Nat.{_+_, _-_, min, _≤_, _<_};
 ghost use lib.Dec.{eqb};
 ghost use lib.ListN.{take, drop};
 ghost use Rattle.order.specs.Queue.{requeue};
 ghost use Rattle.quota.specs.Quota.{natOf};
-ghost use Rattle.scheduler.specs.State.{noThread, meterMost, chargeMost};
+ghost use Rattle.scheduler.specs.State.{noThread, hasReservation, meterMost, chargeMost};
 ghost use Rattle.scheduler.specs.Sound.{sound};
 ghost use Rattle.scheduler.specs.Refusals.{remove, wake, dispatch, report};
-ghost use Rattle.scheduler.specs.Effects.{renewed, allotmentAfter, chargedThread, wokenThread, unstarted};
+ghost use Rattle.scheduler.specs.Effects.{renewed, allotmentAfter, accounted, chargedThread, wokenThread, unstarted};
 ghost use Rattle.scheduler.specs.Answers.{answeredTo, startAnswered};
-ghost use Rattle.scheduler.specs.Inner.{Chargeable};
+ghost use Rattle.scheduler.specs.Inner.{Accounted, Chargeable, Reportable, leftOver};
 use crate::Answer;
 use crate::Answered;
 use crate::Group;
 use crate::Scheduler;
 use crate::Settings;
 use crate::Thread;
+use crate::effort;
 use crate::refusal;
 
 // The reasons of a report.
@@ -50,21 +51,21 @@ pub(crate) fn answered(code: u32) -> Answer
     Answer::Refused(code)
 }
 
-// The answer of a dispatch with a refusal's number, and whether it found a thread.
-fn dispatched(code: u32, found: bool, number: u32, slice: u32, before: u32) -> Answer
-    ensures { λ r. ⌜ r ≡ cond (eqb code 0) (cond found (Answer.Run number slice before) (Answer.Idle before)) (Answer.Refused code) ⌝ }
+// The answer of a dispatch with a refusal's number, and of the thread that it takes, or 64.
+fn dispatched(code: u32, number: u32, slice: u32, before: u32) -> Answer
+    ensures { λ r. ⌜ r ≡ cond (eqb code 0) (cond (eqb number 64) (Answer.Idle before) (Answer.Run number slice before)) (Answer.Refused code) ⌝ }
 {
     if code != 0 {
         return Answer::Refused(code);
     }
-    if found {
-        return Answer::Run {
-            thread: number,
-            slice: slice,
-            before: before,
-        };
+    if number == Scheduler::THREADS {
+        return Answer::Idle(before);
     }
-    Answer::Idle(before)
+    Answer::Run {
+        thread: number,
+        slice: slice,
+        before: before,
+    }
 }
 
 impl Thread {
@@ -82,29 +83,39 @@ impl Thread {
             since: 0,
             allotment: 0,
             reservation: 0,
-            group: 0,
+            group_or_weight: 0,
             status: 0,
+            tag: 0,
         }
     }
 
     // What it may run for at once.
     fn slice(self, interval: u32) -> u32
-        ensures { λ r. ⌜ r ≡ min (natOf (self .allotment)) interval ⌝ }
+        ensures { λ r. ⌜ r ≡ cond (hasReservation self) (min (natOf (self .allotment)) interval) interval ⌝ }
     {
+        if !self.has_reservation() {
+            return interval;
+        }
         let left = quota::number_of(self.allotment);
         if left < interval { left } else { interval }
     }
 
     // The thread after a wake.
-    fn woken(mut self, accepted: bool, meter: u64) -> Self
-        ensures { λ r. ⌜ ((s : Scheduler) → s .meter ≡ meter → r ≡ cond accepted (wokenThread s self) self) ⌝ }
+    fn woken(mut self, accepted: bool, meter: u64, time: u64) -> Self
+        ensures { λ r. ⌜ ((s : Scheduler) → s .meter ≡ meter → s .time ≡ time → r ≡ cond accepted (wokenThread s self) self) ⌝ }
     {
-        if accepted {
-            self.anchor = meter;
-            self.since = 0;
-            self.status = Self::RUNNABLE;
+        if !accepted {
             return self;
         }
+        let tag = fair::start_tag(time, self.tag);
+        let reserved = self.has_reservation();
+        self.anchor = meter;
+        self.since = 0;
+        self.status = Self::RUNNABLE;
+        if reserved {
+            return self;
+        }
+        self.tag = tag;
         self
     }
 
@@ -128,14 +139,24 @@ impl Thread {
         quota::number_of(self.allotment) as u64 <= used
     }
 
-    // Whether a report moves the thread to the rear. One that ends it takes it off the list from there.
+    // Whether a report moves the thread to the rear, where it stands in the list. One that ends it takes it off the list from there.
     fn moves(self, reason: u64, used: u64) -> bool
-        ensures { λ r. ⌜ r ≡ (eqb reason 3 || renewed reason used self) ⌝ }
+        ensures { λ r. ⌜ r ≡ (hasReservation self && (eqb reason 3 || renewed reason used self)) ⌝ }
     {
+        if !self.has_reservation() {
+            return false;
+        }
         if reason == EXIT {
             return true;
         }
         self.renewed(reason, used)
+    }
+
+    // Whether a report takes it off the list.
+    fn leaves(self, reason: u64) -> bool
+        ensures { λ r. ⌜ r ≡ (hasReservation self && eqb reason 3) ⌝ }
+    {
+        self.has_reservation() & (reason == EXIT)
     }
 
     // The allotment after a report.
@@ -147,19 +168,13 @@ impl Thread {
         quota::after(self.allotment, quantum, reason == YIELD, used as u32) as i32
     }
 
-    // The thread after a report that is accepted and leaves the meter at `meter`.
-    fn charged(mut self, meter: u64, thousandth: u16, reason: u64, used: u64) -> Self
-        requires { ⌜ Chargeable thousandth used self ⌝ }
-        ensures { λ r. ⌜ ((s : Scheduler) → s .meter + used ≡ meter → s .settings .thousandth ≡ thousandth
-            → r ≡ cond (eqb reason 3) noThread (chargedThread s reason used self)) ⌝ }
+    // The thread's account and status after a report that is accepted, leaves the meter at `meter` and does not end it.
+    pub(crate) fn accounted(mut self, meter: u64, reason: u64, used: u64) -> Self
+        requires { ⌜ Accounted used self ⌝ }
+        ensures { λ r. ⌜ ((s : Scheduler) → s .meter + used ≡ meter → r ≡ accounted s reason used self (self .allotment) (self .tag)) ⌝ }
     {
-        if reason == EXIT {
-            return Self::none();
-        }
-        let allotment = self.remaining(thousandth, reason, used);
         let ticks = charge(self.ticks, used);
         let since = charge(self.since, used);
-        self.allotment = allotment;
         self.ticks = ticks;
         self.since = since;
         self.status = Self::RUNNABLE;
@@ -175,16 +190,34 @@ impl Thread {
         self
     }
 
+    // A reserved thread after such a report.
+    fn charged(self, meter: u64, thousandth: u16, reason: u64, used: u64) -> Self
+        requires { ⌜ (Accounted used self) × (Chargeable thousandth used self) ⌝ }
+        ensures { λ r. ⌜ ((s : Scheduler) → s .meter + used ≡ meter → s .settings .thousandth ≡ thousandth
+            → r ≡ chargedThread s reason used self) ⌝ }
+    {
+        let allotment = self.remaining(thousandth, reason, used);
+        let mut after = self.accounted(meter, reason, used);
+        after.allotment = allotment;
+        after
+    }
+
     // The thread after a report.
     fn reported(self, accepted: bool, meter: u64, thousandth: u16, reason: u64, used: u64) -> Self
-        requires { ⌜ (accepted ≡ true → Chargeable thousandth used self) ⌝ }
+        requires { ⌜ (accepted ≡ true → Reportable thousandth used self) ⌝ }
         ensures { λ r. ⌜ ((s : Scheduler) → (accepted ≡ true → s .meter + used ≡ meter) → s .settings .thousandth ≡ thousandth
-            → r ≡ cond accepted (cond (eqb reason 3) noThread (chargedThread s reason used self)) self) ⌝ }
+            → r ≡ cond accepted (leftOver s reason used self) self) ⌝ }
     {
-        if accepted {
+        if !accepted {
+            return self;
+        }
+        if reason == EXIT {
+            return Self::none();
+        }
+        if self.has_reservation() {
             return self.charged(meter, thousandth, reason, used);
         }
-        self
+        self.spent(meter, reason, used)
     }
 }
 
@@ -220,7 +253,7 @@ fn count_after(count: u32, ends: bool) -> u32
     count
 }
 
-// The running thread after a dispatch or a report.
+// The running thread after a dispatch or a report; and the thread found in the list, or 64.
 fn running_after(changes: bool, next: u32, running: u32) -> u32
     ensures { λ r. ⌜ r ≡ cond changes next running ⌝ }
 {
@@ -261,6 +294,7 @@ impl Scheduler {
             order: [0; 64],
             groups: [group; 16],
             meter: 0,
+            time: 0,
             settings: settings,
             count: 0,
             running: 0,
@@ -296,7 +330,7 @@ impl Scheduler {
         }
     }
 
-    // Takes a thread off the list and frees its number and reservation.
+    // Frees a thread's number and reservation, and takes a reserved thread off the list.
     pub fn remove(self, number: u64) -> Answered
         ensures { λ r. ⌜ r ≡ answeredTo (remove number) self ⌝ }
     {
@@ -312,7 +346,8 @@ impl Scheduler {
         self.wake_given(ok, number)
     }
 
-    // Takes the first runnable thread of the list. `before` counts the entries passed, which are blocked.
+    // Takes the first runnable thread of the list or, where there is none, a best-effort one. `before` counts the entries passed, which are
+    // blocked.
     pub fn dispatch(self) -> Answered
         ensures { λ r. ⌜ r ≡ answeredTo dispatch self ⌝ }
     {
@@ -340,11 +375,12 @@ impl Scheduler {
         let accepted = code == 0;
         let count = self.count;
         let list = self.order;
+        let leaves = accepted & thread.has_reservation();
         let freed = thread.freed(accepted);
-        let moved = requeued(list, count as usize, at as u8, accepted);
+        let moved = requeued(list, count as usize, at as u8, leaves);
         self.threads[at] = freed;
         self.order = moved;
-        self.count = count_after(count, accepted);
+        self.count = count_after(count, leaves);
         Answered {
             answer: answered(code),
             state: self,
@@ -358,7 +394,7 @@ impl Scheduler {
         let at = (number % Self::THREADS as u64) as usize;
         let thread = self.threads[at];
         let code = refusal::wake_code(ok, number, thread.status);
-        let woken = thread.woken(code == 0, self.meter);
+        let woken = thread.woken(code == 0, self.meter, self.time);
         self.threads[at] = woken;
         Answered {
             answer: answered(code),
@@ -387,12 +423,18 @@ impl Scheduler {
         }
         let found = before < count;
         let place = (before % Self::THREADS) as usize;
-        let number = self.order[place] as u32 % Self::THREADS;
-        let thread = self.threads[number as usize];
+        let first = self.order[place] as u32 % Self::THREADS;
+        let listed = running_after(found, first, Self::THREADS);
+        let threads = self.threads;
+        let taken = effort::choice_of(threads, listed, before);
+        let number = taken.number;
+        let thread = self.threads[(number % Self::THREADS) as usize];
         let slice = thread.slice(self.settings.interval);
-        self.running = running_after(found, number, running);
+        let accepted = code == 0;
+        self.time = thread.time_if(accepted & (number < Self::THREADS), self.time);
+        self.running = running_after(accepted, number, running);
         Answered {
-            answer: dispatched(code, found, number, slice, before),
+            answer: dispatched(code, number, slice, taken.before),
             state: self,
         }
     }
@@ -408,14 +450,15 @@ impl Scheduler {
         let code = refusal::report_code(ok, running, reason, slice, self.settings.overrun, used);
         let charges = code == 0;
         let count = self.count;
+        let length = count as usize;
         let list = self.order;
         let meter = meter_after(charges, self.meter, used);
         let reported = thread.reported(charges, meter, self.settings.thousandth, reason, used);
         let moves = charges & thread.moves(reason, used);
-        let moved = requeued(list, count as usize, at as u8, moves);
+        let moved = requeued(list, length, at as u8, moves);
         self.threads[at] = reported;
         self.order = moved;
-        self.count = count_after(count, charges & (reason == EXIT));
+        self.count = count_after(count, charges & thread.leaves(reason));
         self.running = running_after(charges, Self::THREADS, running);
         self.meter = meter;
         Answered {

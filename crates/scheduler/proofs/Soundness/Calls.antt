@@ -1,34 +1,36 @@
--- Wake, admit, remove, dispatch and report each keep a state sound: each changes one thread and the list, and Change does the rest.
+-- What a wake, an admission, a removal and a report of a reserved thread do keeps a state sound: each changes one thread and the list, and
+-- Change does the rest. The best-effort threads and dispatch are in Efforts.
 use Prim.Native.Nat.{ℕ, _+_, _-_, _*_, _≤_, _<_}
 use mathlib.Core.Path.{_≡_, refl, sym, subst, _∙_}
 use mathlib.Core.List.{List, [], _∷_, _++_}
-use mathlib.Core.Bool.{Bool, true, false, cond, _&&_}
+use mathlib.Core.Bool.{Bool, true, false, not, cond, _&&_}
 use native.Mathlib.Omega.{arith}
 use native.Mathlib.Nat.{le-refl, mul-pos}
 use lib.ListN.{length, length-set}
-use lib.Seq.{set-getD}
-use lib.Dec.{T, ltb, eqb, lit<, lt→ltb}
+use lib.Dec.{T, T-not, ltb, eqb, lt→ltb, le→leb}
+use lib.IntN.{ℤ}
 use borrow.Author.Tests.{eqb-true, eqb-false}
 use Rattle.base.specs.Lists.{member, distinct, without, everyOf}
-use Rattle.base.proofs.Bools.{by, and-l, and-r, both, is}
+use Rattle.base.proofs.Bools.{by, and-l, and-r, both, is, holds}
 use Rattle.base.proofs.Lists.{member-without, everyOf-without, distinct-without, member-self, everyOf-map, everyOf-snoc, member-left}
 use Rattle.base.proofs.Lists.{member-last, distinct-snoc}
 use Rattle.scheduler.specs.declared.Thread.{Thread}
 use Rattle.scheduler.specs.declared.Scheduler.{Scheduler}
 use Rattle.quota.specs.Quota.{natOf}
-use Rattle.scheduler.specs.State.{noThread, threadAt, groupAt, admittedAt, reservedAt, runnableAt, reservationAt, openAt}
-use Rattle.scheduler.specs.State.{listed, meterLimit, meterMost}
-use Rattle.scheduler.specs.State.{usedMost, withThread, withList, withRun, isAdmitted, isReserved, isRunnable}
+use Rattle.fair.specs.Tags.{tagUnit}
+use Rattle.scheduler.specs.State.{noThread, threadAt, groupAt, admittedAt, reservedAt, effortAt, runnableAt, reservationAt, openAt}
+use Rattle.scheduler.specs.State.{listed, meterMost, limitOf, groupOf, hasReservation, isEffort, usedMost, withThread, withList}
+use Rattle.scheduler.specs.State.{withRun, isAdmitted, isReserved, isRunnable}
 use Rattle.scheduler.specs.Sound.{load}
-use Rattle.scheduler.specs.Refusals.{admit, remove, wake, dispatch, free}
-use Rattle.scheduler.specs.Effects.{rear, toRear, offList, join, newThread, wokenThread, chargedThread, charged, exited}
-use Rattle.scheduler.specs.Effects.{reported, chosen, effect}
-use Rattle.scheduler.proofs.Facts.{Fit, Account, ThreadFacts, RunFacts, Facts, admitted-reserved, member-admitted, carries}
+use Rattle.scheduler.specs.Refusals.{admit, free}
+use Rattle.scheduler.specs.Effects.{rear, toRear, offList, join, newThread, wokenThread, allotmentAfter, accounted, chargedThread}
+use Rattle.scheduler.specs.Effects.{aside, charged, exited, listReported, effect}
+use Rattle.scheduler.proofs.Facts.{Fit, Account, TagFacts, ThreadFacts, RunFacts, Facts, reserved-admitted, reserved-has, carries}
 use Rattle.scheduler.proofs.Facts.{settings-facts, take-rear, take-off, length-rear, room, listed-join, thread-other, thread-same}
 use Rattle.scheduler.proofs.Facts.{unlisted}
-use Rattle.scheduler.proofs.Passed.{reported-cases, AdmitOk}
-use Rattle.scheduler.proofs.Steps.{chosen-runnable, charge-most, after-fits}
-use Rattle.scheduler.proofs.Soundness.Change.{account-anew, changed-facts, shareOf}
+use Rattle.scheduler.proofs.Passed.{list-cases, AdmitOk}
+use Rattle.scheduler.proofs.Steps.{charge-most, after-fits}
+use Rattle.scheduler.proofs.Soundness.Change.{account-anew, changed-facts, shareOf, tags-off}
 
 -- Wake, and everything else that changes one thread and not the list.
 
@@ -47,7 +49,7 @@ kept p s n t l a j b =
     (λ e _. subst (λ (u : Thread). T (p u)) (sym (thread-other s n t j (eqb-false j n e))) b)
     refl
 
-admitted-kept : (s : Scheduler) (n : ℕ) (t : Thread) → n < length (s .threads) → T (isAdmitted t) → (j : ℕ) → T (admittedAt s j)
+pub admitted-kept : (s : Scheduler) (n : ℕ) (t : Thread) → n < length (s .threads) → T (isAdmitted t) → (j : ℕ) → T (admittedAt s j)
     → T (admittedAt (withThread s n t) j)
 unfolding admittedAt
 admitted-kept = kept (λ t. isAdmitted t)
@@ -57,7 +59,7 @@ reserved-kept : (s : Scheduler) (n : ℕ) (t : Thread) → n < length (s .thread
 unfolding reservedAt
 reserved-kept = kept (λ t. isReserved t)
 
-runnable-kept : (s : Scheduler) (n : ℕ) (t : Thread) → n < length (s .threads) → T (isRunnable t) → (j : ℕ) → T (runnableAt s j)
+pub runnable-kept : (s : Scheduler) (n : ℕ) (t : Thread) → n < length (s .threads) → T (isRunnable t) → (j : ℕ) → T (runnableAt s j)
     → T (runnableAt (withThread s n t) j)
 unfolding runnableAt
 runnable-kept = kept (λ t. isRunnable t)
@@ -68,9 +70,14 @@ listed-kept p q l f t =
     everyOf-map (λ n. ltb n 64 && p n) (λ n. ltb n 64 && q n) l
     (λ j _ u. both (ltb j 64) (q j) (and-l (ltb j 64) (p j) u) (f j (and-r (ltb j 64) (p j) u))) t
 
+-- a reserved thread is no best-effort one
+one-kind : (t : Thread) → T (isReserved t) → T (isEffort t) → ⊥
+one-kind t a b =
+    T-not (hasReservation t) (and-r (isAdmitted t) (not (hasReservation t)) b) (and-r (isAdmitted t) (hasReservation t) a)
+
 -- A reserved thread is replaced by one that is in order; list and meter stay.
 pub entry-facts : (s : Scheduler) → Facts s → (n : ℕ) → T (reservedAt s n) → (t : Thread) → T (isReserved t) → t .status ≤ 2
-    → T (openAt s (t .group)) → Fit t (s .settings .thousandth) → Account t (s .meter)
+    → T (openAt s (groupOf t)) → Fit t (s .settings .thousandth) → Account t (s .meter)
     → ((g : ℕ) → T (openAt s g) → load s g + shareOf t g ≤ (groupAt s g) .ceiling + shareOf (threadAt s n) g)
     → ((s .running ≡ 64 → ⊥) → T (runnableAt (withThread s n t) (s .running)))
     → Facts (withThread s n t)
@@ -94,26 +101,30 @@ entry-facts s k n own t res status group fit account fits-in run =
       own-status = status;
       own-fit = λ _. fit;
       own-account = λ _. account;
+      own-tag = λ u. absurd (one-kind t res u);
+      tags = λ j _ e. k .effort j e;
+      time-paid = k .time;
       room = fits-in;
       run = λ ne.
           let r = k .run ne in
           record {
             small = r .small;
-            admitted = admitted-kept s n t inside res (s .running) (r .admitted);
+            admitted = admitted-kept s n t inside (and-l (isAdmitted t) (hasReservation t) res) (s .running) (r .admitted);
             runnable = run ne;
             early = r .early;
           };
     })
 
-pub wake-facts : (s : Scheduler) → Facts s → (n : ℕ) → T (admittedAt s n) → Facts (effect (wake n) s)
-unfolding effect wokenThread reservedAt
-wake-facts s k n a =
+pub woken-facts : (s : Scheduler) → Facts s → (n : ℕ) → T (reservedAt s n) → Facts (withThread s n (wokenThread s (threadAt s n)))
+unfolding wokenThread reservedAt
+woken-facts s k n own =
     let t = wokenThread s (threadAt s n) in
-    let own = admitted-reserved s n a in
     let q = k .thread n own in
-    entry-facts s k n own t tt (omega arith) (q .in-group) (fit-woken s (threadAt s n) (q .fit))
+    let a = reserved-admitted s n own in
+    let res : T (isReserved t) = holds (hasReservation (threadAt s n)) (reserved-has s n own) in
+    entry-facts s k n own t res (omega arith) (q .in-group) (fit-woken s (threadAt s n) (q .fit))
     (account-anew (threadAt s n) t (s .meter) refl refl refl refl (k .account n a))
-    (λ g o. rw (is (isReserved (threadAt s n)) own) (omega (arith, carries s k g o)))
+    (λ g o. rw (is (isReserved (threadAt s n)) own, reserved-has s n own) (omega (arith, carries s k g o)))
     (λ ne. runnable-kept s n t (omega (arith, q .small, k .threads64)) tt (s .running) ((k .run ne) .runnable))
 
 -- Report: the running thread is charged.
@@ -128,10 +139,10 @@ fit-charged s k r reason used own fit = record {
   bounded = (after-fits s k r reason used own fit) .1;
 }
 
-account-charged : (s : Scheduler) (reason used : ℕ) (t : Thread) → Account t (s .meter)
-    → Account (chargedThread s reason used t) (s .meter + used)
-unfolding chargedThread
-account-charged s reason used t k = record {
+-- the account after a report, whatever the allotment and the tag
+pub account-charged : (s : Scheduler) (reason used : ℕ) (t : Thread) (allotment : ℤ) (tag : ℕ) → Account t (s .meter)
+    → Account (accounted s reason used t allotment tag) (s .meter + used)
+account-charged s reason used t allotment tag k = record {
   anchored =
       elim (eqb reason 2) as (λ b. t .admission ≤ cond b (s .meter + used) (t .anchor))
       [ true ↦ omega (arith, k .anchored, k .past) | false ↦ k .anchored ];
@@ -146,12 +157,12 @@ account-charged s reason used t k = record {
 
 -- The other threads when n's is replaced.
 
-off-n : (p : Thread → Bool) (s : Scheduler) (n : ℕ) (t : Thread) (j : ℕ) → (j ≡ n → ⊥) → T (p (threadAt s j))
+pub off-n : (p : Thread → Bool) (s : Scheduler) (n : ℕ) (t : Thread) (j : ℕ) → (j ≡ n → ⊥) → T (p (threadAt s j))
     → T (p (threadAt (withThread s n t) j))
 off-n p s n t j ne b = subst (λ (u : Thread). T (p u)) (sym (thread-other s n t j ne)) b
 
 -- the list without n
-left-over : (s : Scheduler) (n : ℕ) (t : Thread) → T (everyOf (λ j. ltb j 64 && reservedAt s j) (listed s))
+pub left-over : (s : Scheduler) (n : ℕ) (t : Thread) → T (everyOf (λ j. ltb j 64 && reservedAt s j) (listed s))
     → T (everyOf (λ j. ltb j 64 && reservedAt (withThread s n t) j) (without n (listed s)))
 unfolding reservedAt
 left-over s n t h =
@@ -165,13 +176,14 @@ still-listed n j l ne m = rw (member-without n j (λ z. ne (sym z)) l) m
 
 -- Remove.
 
-pub remove-facts : (s : Scheduler) → Facts s → (n : ℕ) → n < 64 → T (admittedAt s n) → (n ≡ s .running → ⊥) → Facts (effect (remove n) s)
-unfolding effect offList withList withThread listed rear admittedAt reservedAt runnableAt
-remove-facts s k n small a ar =
-    let q = k .thread n (admitted-reserved s n a) in
+pub leave-facts : (s : Scheduler) → Facts s → (n : ℕ) → T (reservedAt s n) → (n ≡ s .running → ⊥)
+    → Facts (offList n (withThread s n noThread))
+unfolding offList withList withThread listed rear admittedAt reservedAt runnableAt
+leave-facts s k n own ar =
+    let q = k .thread n own in
     let fit : s .count ≤ length (s .order) = omega (arith, k .count64, k .order64) in
     let l = take-off (s .order) (s .count) n fit (k .once) (q .in-list) in
-    changed-facts s k n small noThread (effect (remove n) s) (record {
+    changed-facts s k n (q .small) noThread (offList n (withThread s n noThread)) (record {
       threads = refl;
       groups = refl;
       settings = refl;
@@ -188,6 +200,9 @@ remove-facts s k n small a ar =
       own-group = λ u. absurd u;
       own-fit = λ u. absurd u;
       own-account = λ u. absurd u;
+      own-tag = λ u. absurd u;
+      tags = λ j _ e. k .effort j e;
+      time-paid = k .time;
       own-status = omega arith;
       room = λ g o. omega (arith, carries s k g o);
       run = λ ne.
@@ -202,39 +217,44 @@ remove-facts s k n small a ar =
 
 -- Report.
 
-module _ (s : Scheduler) (k : Facts s) (r : ℕ) (is-r : s .running ≡ r) (runs : r ≡ 64 → ⊥) (reason used : ℕ) (fit : used ≤ usedMost s r)
+module _ (s : Scheduler) (k : Facts s) (r : ℕ) (is-r : s .running ≡ r) (runs : r ≡ 64 → ⊥) (used : ℕ) (fit : used ≤ usedMost s r) where
+  runner : RunFacts s
+  runner = k .run (λ z. runs (sym is-r ∙ z))
+
+  pub run-small : r < 64
+  run-small = subst (λ (j : ℕ). j < 64) is-r (runner .small)
+
+  pub run-admitted : T (admittedAt s r)
+  run-admitted = subst (λ (j : ℕ). T (admittedAt s j)) is-r (runner .admitted)
+
+  pub late : s .meter + used ≤ meterMost
+  late = omega (arith, runner .early, fit, charge-most s k r)
+
+module _ (s : Scheduler) (k : Facts s) (r : ℕ) (own : T (reservedAt s r)) (reason used : ℕ) (fit : used ≤ usedMost s r)
+    (later : s .meter + used ≤ meterMost)
   where
-    runner : RunFacts s
-    runner = k .run (λ z. runs (sym is-r ∙ z))
-
-    r-small : r < 64
-    r-small = subst (λ (j : ℕ). j < 64) is-r (runner .small)
-
-    r-adm : T (admittedAt s r)
-    r-adm = subst (λ (j : ℕ). T (admittedAt s j)) is-r (runner .admitted)
-
-    r-res : T (reservedAt s r)
-    r-res = admitted-reserved s r r-adm
-
     r-facts : ThreadFacts s r
-    r-facts = k .thread r r-res
-
-    late : s .meter + used ≤ meterMost
-    late = omega (arith, runner .early, fit, charge-most s k r)
+    r-facts = k .thread r own
 
     o-fits : s .count ≤ length (s .order)
     o-fits = omega (arith, k .count64, k .order64)
 
+    off : (j : ℕ) → T (effortAt s j) → TagFacts (threadAt s j) (limitOf (s .settings)) (s .time) (s .meter + used) (eqb 64 j)
+    off = tags-off s k (s .meter + used) (omega arith)
+
+    paid : s .time ≤ tagUnit * (s .meter + used)
+    paid = omega (arith, k .time)
+
     exit-facts : Facts (exited r used s)
-    unfolding exited offList withRun withList withThread listed rear reservedAt
+    unfolding exited aside offList withRun withList withThread listed rear reservedAt
     exit-facts =
         let l = take-off (s .order) (s .count) r o-fits (k .once) (r-facts .in-list) in
-        changed-facts s k r r-small noThread (exited r used s) (record {
+        changed-facts s k r (r-facts .small) noThread (exited r used s) (record {
           threads = refl;
           groups = refl;
           settings = refl;
           meter = omega arith;
-          meter-most = late;
+          meter-most = later;
           order64 = length-rear (s .order) (s .count) r o-fits (k .once) (r-facts .in-list) ∙ k .order64;
           count64 = omega (arith, k .count64);
           members =
@@ -246,6 +266,9 @@ module _ (s : Scheduler) (k : Facts s) (r : ℕ) (is-r : s .running ≡ r) (runs
           own-group = λ u. absurd u;
           own-fit = λ u. absurd u;
           own-account = λ u. absurd u;
+          own-tag = λ u. absurd u;
+          tags = λ j _ e. off j e;
+          time-paid = paid;
           own-status = omega arith;
           room = λ g o. omega (arith, carries s k g o);
           run = λ ne. absurd (ne refl);
@@ -258,69 +281,78 @@ module _ (s : Scheduler) (k : Facts s) (r : ℕ) (is-r : s .running ≡ r) (runs
     unfolding t-new chargedThread
     t-adm = elim (eqb reason 1) as (λ b. T (ltb 0 (cond b 2 1))) [ true ↦ tt | false ↦ tt ]
 
+    t-res : T (isReserved t-new)
+    unfolding t-new chargedThread
+    t-res = both (isAdmitted t-new) (hasReservation (threadAt s r)) t-adm (holds (hasReservation (threadAt s r)) (reserved-has s r own))
+
     t-status : t-new .status ≤ 2
     unfolding t-new chargedThread
     t-status = elim (eqb reason 1) as (λ b. cond b 2 1 ≤ 2) [ true ↦ omega arith | false ↦ omega arith ]
 
     t-fit : Fit t-new (s .settings .thousandth)
     unfolding t-new
-    t-fit = fit-charged s k r reason used r-res fit
+    t-fit = fit-charged s k r reason used own fit
 
     t-account : Account t-new (s .meter + used)
-    unfolding t-new
-    t-account = account-charged s reason used (threadAt s r) (k .account r r-adm)
+    unfolding t-new chargedThread
+    t-account =
+        let t = threadAt s r in
+        account-charged s reason used t (allotmentAfter s reason used t) (t .tag) (k .account r (reserved-admitted s r own))
 
-    t-group : T (openAt s (t-new .group))
+    t-group : T (openAt s (groupOf t-new))
     unfolding t-new chargedThread
     t-group = r-facts .in-group
 
     t-room : (g : ℕ) → T (openAt s g) → load s g + shareOf t-new g ≤ (groupAt s g) .ceiling + shareOf (threadAt s r) g
     unfolding t-new chargedThread reservedAt
-    t-room g o = rw (is (isReserved (threadAt s r)) r-res, is (ltb 0 (cond (eqb reason 1) 2 1)) t-adm) (omega (arith, carries s k g o))
+    t-room g o = rw (is (isReserved (threadAt s r)) own, is (isReserved t-new) t-res) (omega (arith, carries s k g o))
 
     inside : r < length (s .threads)
-    inside = omega (arith, r-small, k .threads64)
+    inside = omega (arith, (r-facts .small), k .threads64)
 
     stay-facts : Facts (charged r reason used s)
-    unfolding charged withRun withThread listed reservedAt t-new
+    unfolding charged aside withRun withThread listed reservedAt t-new
     stay-facts =
-        changed-facts s k r r-small t-new (charged r reason used s) (record {
+        changed-facts s k r (r-facts .small) t-new (charged r reason used s) (record {
           threads = refl;
           groups = refl;
           settings = refl;
           meter = omega arith;
-          meter-most = late;
+          meter-most = later;
           order64 = k .order64;
           count64 = k .count64;
           members =
-              listed-kept (reservedAt s) (reservedAt (withThread s r t-new)) (listed s) (reserved-kept s r t-new inside t-adm) (k .members);
+              listed-kept (reservedAt s) (reservedAt (withThread s r t-new)) (listed s) (reserved-kept s r t-new inside t-res) (k .members);
           once = k .once;
           others = λ j ne m. m;
           own-list = λ _. r-facts .in-list;
           own-group = λ _. t-group;
           own-fit = λ _. t-fit;
           own-account = λ _. t-account;
+          own-tag = λ u. absurd (one-kind t-new t-res u);
+          tags = λ j _ e. off j e;
+          time-paid = paid;
           own-status = t-status;
           room = t-room;
           run = λ ne. absurd (ne refl);
         })
 
     rear-facts : Facts (toRear r (charged r reason used s))
-    unfolding toRear charged withList withRun withThread listed rear reservedAt t-new
+    unfolding toRear charged aside withList withRun withThread listed rear reservedAt t-new
     rear-facts =
         let l = take-rear (s .order) (s .count) r o-fits (k .once) (r-facts .in-list) in
         let at = withThread s r t-new in
-        changed-facts s k r r-small t-new (toRear r (charged r reason used s)) (record {
+        changed-facts s k r (r-facts .small) t-new (toRear r (charged r reason used s)) (record {
           threads = refl;
           groups = refl;
           settings = refl;
           meter = omega arith;
-          meter-most = late;
+          meter-most = later;
           order64 = length-rear (s .order) (s .count) r o-fits (k .once) (r-facts .in-list) ∙ k .order64;
           count64 = k .count64;
           members = subst (λ (z : List ℕ). T (everyOf (λ j. ltb j 64 && reservedAt at j) z)) (sym l)
               (everyOf-snoc (λ j. ltb j 64 && reservedAt at j) r (without r (listed s)) (left-over s r t-new (k .members))
-              (both (ltb r 64) (reservedAt at r) (lt→ltb r 64 r-small) (reserved-kept s r t-new inside t-adm r r-res)));
+              (both (ltb r 64) (reservedAt at r) (lt→ltb r 64 (r-facts .small)) (reserved-kept s r t-new inside t-res r own)));
           once =
               subst (λ (z : List ℕ). T (distinct z)) (sym l) (distinct-snoc r (without r (listed s))
               (distinct-without r (listed s) (k .once))
@@ -332,47 +364,16 @@ module _ (s : Scheduler) (k : Facts s) (r : ℕ) (is-r : s .running ≡ r) (runs
           own-group = λ _. t-group;
           own-fit = λ _. t-fit;
           own-account = λ _. t-account;
+          own-tag = λ u. absurd (one-kind t-new t-res u);
+          tags = λ j _ e. off j e;
+          time-paid = paid;
           own-status = t-status;
           room = t-room;
           run = λ ne. absurd (ne refl);
         })
 
-    pub report-facts : Facts (reported r reason used s)
-    report-facts = reported-cases Facts r reason used s (λ _. exit-facts) (λ _ _. rear-facts) (λ _ _. stay-facts)
-
--- Dispatch.
-
-pub dispatch-facts : (s : Scheduler) → Facts s → s .meter < meterLimit → Facts (effect dispatch s)
-unfolding effect withRun listed admittedAt reservedAt runnableAt chosen
-dispatch-facts s k early =
-    let t = threadAt s 0 in
-    changed-facts s k 0 (lit< tt) t (effect dispatch s) (record {
-      threads = sym (set-getD (s .threads) 0 noThread);
-      groups = refl;
-      settings = refl;
-      meter = le-refl (s .meter);
-      meter-most = k .meter;
-      order64 = k .order64;
-      count64 = k .count64;
-      members = k .members;
-      once = k .once;
-      others = λ j ne m. m;
-      own-list = λ a. (k .thread 0 a) .in-list;
-      own-group = λ a. (k .thread 0 a) .in-group;
-      own-fit = λ a. (k .thread 0 a) .fit;
-      own-account = λ a. k .account 0 a;
-      own-status = k .status 0 (lit< tt);
-      room = λ g o. omega (arith, carries s k g o);
-      run = λ ne.
-          let c = chosen-runnable s ne in
-          let a = member-admitted s k (chosen s) (c .0) in
-          record {
-            small = k .small (chosen s) a;
-            admitted = a;
-            runnable = c .1;
-            early = early;
-          };
-    })
+    pub list-facts : Facts (listReported r reason used s)
+    list-facts = list-cases Facts r reason used s (λ _. exit-facts) (λ _ _. rear-facts) (λ _ _. stay-facts)
 
 -- Admit.
 
@@ -384,14 +385,15 @@ account-new : (s : Scheduler) (g d : ℕ) → Account (newThread s g d) (s .mete
 unfolding newThread
 account-new s g d = record { anchored = le-refl (s .meter); past = le-refl (s .meter); charged = omega arith; since = omega arith }
 
-admit-room : (s : Scheduler) → Facts s → (n g d : ℕ) → d ≤ free s g → admittedAt s n ≡ false
+admit-room : (s : Scheduler) → Facts s → (n g d : ℕ) → d ≤ free s g → 1 ≤ d
     → (j : ℕ) → T (openAt s j) → load s j + shareOf (newThread s g d) j ≤ (groupAt s j) .ceiling + shareOf (threadAt s n) j
 unfolding newThread free
-admit-room s k n g d le fresh j o =
-    by (λ b. eqb g j ≡ b → load s j + cond b d 0 ≤ (groupAt s j) .ceiling + shareOf (threadAt s n) j) (eqb g j)
+admit-room s k n g d le low j o =
+    rw (is (ltb 0 d) (le→leb 1 d low))
+    (by (λ b. eqb g j ≡ b → load s j + cond b d 0 ≤ (groupAt s j) .ceiling + shareOf (threadAt s n) j) (eqb g j)
     (λ e _. omega (arith, subst (λ (i : ℕ). d ≤ (groupAt s i) .ceiling - load s i) (eqb-true g j e) le, carries s k j o))
     (λ e _. omega (arith, carries s k j o))
-    refl
+    refl)
 
 pub admit-facts : (s : Scheduler) → Facts s → (n g d : ℕ) → AdmitOk s n g d → Facts (effect (admit n g d) s)
 unfolding effect join withList withThread listed newThread reservedAt admittedAt runnableAt
@@ -402,6 +404,7 @@ admit-facts s k n g d ok =
     let count : s .count < 64 = room s k n (ok .small) out in
     let l : listed (join n at) ≡ listed s ++ n ∷ [] = listed-join at (omega (arith, k .order64)) n in
     let inside : n < length (s .threads) = omega (arith, ok .small, k .threads64) in
+    let res : T (isReserved t) = le→leb 1 d (ok .positive) in
     changed-facts s k n (ok .small) t (effect (admit n g d) s) (record {
       threads = refl;
       groups = refl;
@@ -412,17 +415,20 @@ admit-facts s k n g d ok =
       count64 = omega arith;
       members = subst (λ (z : List ℕ). T (everyOf (λ j. ltb j 64 && reservedAt at j) z)) (sym l)
           (everyOf-snoc (λ j. ltb j 64 && reservedAt at j) n (listed s)
-          (listed-kept (reservedAt s) (reservedAt at) (listed s) (reserved-kept s n t inside tt) (k .members))
+          (listed-kept (reservedAt s) (reservedAt at) (listed s) (reserved-kept s n t inside res) (k .members))
           (both (ltb n 64) (reservedAt at n) (lt→ltb n 64 (ok .small)) (subst (λ (u : Thread). T (isReserved u))
-          (sym (thread-same s n t inside)) tt)));
+          (sym (thread-same s n t inside)) res)));
       once = subst (λ (z : List ℕ). T (distinct z)) (sym l) (distinct-snoc n (listed s) (k .once) out);
       others = λ j ne m. subst (λ (z : List ℕ). T (member j z)) (sym l) (member-left j n (listed s) m);
       own-list = λ _. subst (λ (z : List ℕ). T (member n z)) (sym l) (member-last n (listed s));
       own-group = λ _. ok .opened;
       own-fit = λ _. fit-new s g d (ok .positive) (ok .at-most) ((settings-facts (s .settings) (k .settings)) .0);
       own-account = λ _. account-new s g d;
+      own-tag = λ u. absurd (one-kind t res u);
+      tags = λ j _ e. k .effort j e;
+      time-paid = k .time;
       own-status = omega arith;
-      room = admit-room s k n g d (ok .fits-in) (ok .fresh);
+      room = admit-room s k n g d (ok .fits-in) (ok .positive);
       run = λ ne.
           let r = k .run ne in
           record {

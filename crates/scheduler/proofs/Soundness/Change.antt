@@ -1,6 +1,6 @@
 -- A change of one thread keeps a state sound: what wake, admit, remove, dispatch and report share. The other threads keep their facts,
--- the loads of the groups change by that thread's reservation alone.
-use Prim.Native.Nat.{ℕ, _+_, _≤_, _<_}
+-- the loads of the groups change by that thread's reservation alone; the tags of the others have to be in order after it.
+use Prim.Native.Nat.{ℕ, _+_, _*_, _≤_, _<_}
 use mathlib.Core.Path.{_≡_, refl, sym, ap, subst, _∙_}
 use mathlib.Core.List.{List}
 use mathlib.Core.Bool.{cond, _&&_}
@@ -10,18 +10,18 @@ use lib.Seq.{getD-set-same, getD-set-other}
 use lib.Dec.{T, ltb, eqb}
 use borrow.Author.Tests.{eqb-true, eqb-false}
 use Rattle.base.specs.Lists.{member, distinct, everyOf, sumBelow}
-use Rattle.base.proofs.Bools.{by}
+use Rattle.base.proofs.Bools.{by, is}
 use Rattle.base.proofs.Sums.{sum-update}
+use Rattle.fair.specs.Tags.{tagUnit}
+use Rattle.fair.proofs.Tags.{keep-run}
 use Rattle.scheduler.specs.declared.Settings.{Settings}
 use Rattle.scheduler.specs.declared.Thread.{Thread}
 use Rattle.scheduler.specs.declared.Group.{Group}
 use Rattle.scheduler.specs.declared.Scheduler.{Scheduler}
 use Rattle.scheduler.specs.State.{noThread, noGroup, threadAt, groupAt, admittedAt, reservedAt, reservationAt, openAt, listed}
-use Rattle.scheduler.specs.State.{meterMost}
-use Rattle.scheduler.specs.State.{isAdmitted, isReserved, isOpen}
+use Rattle.scheduler.specs.State.{meterMost, limitOf, effortAt, isAdmitted, isReserved, isEffort, isOpen, groupOf}
 use Rattle.scheduler.specs.Sound.{settingsOk, load, threadIn, childOf, reservedIn, ceilingsIn}
-use Rattle.scheduler.specs.Effects.{charged}
-use Rattle.scheduler.proofs.Facts.{Fit, Account, ThreadFacts, GroupFacts, RunFacts, Facts, carries}
+use Rattle.scheduler.proofs.Facts.{Fit, Account, TagFacts, ThreadFacts, GroupFacts, RunFacts, Facts, effort-admitted, carries}
 
 pub account-later : (t : Thread) (meter meter′ : ℕ) → meter ≤ meter′ → Account t meter → Account t meter′
 account-later t meter meter′ le k = record {
@@ -43,7 +43,7 @@ account-anew t t′ meter admission ticks anchor since k = record {
 
 -- what a thread adds to the load of group g
 abbrev pub shareOf : Thread → ℕ → ℕ
-shareOf t g = cond (isReserved t && eqb (t .group) g) (t .reservation) 0
+shareOf t g = cond (isReserved t && eqb (groupOf t) g) (t .reservation) 0
 
 pub record Changed (s : Scheduler) (n : ℕ) (t : Thread) (s′ : Scheduler) : Type 0 where
   pub threads : s′ .threads ≡ set (s .threads) n t
@@ -57,9 +57,13 @@ pub record Changed (s : Scheduler) (n : ℕ) (t : Thread) (s′ : Scheduler) : T
   pub once : T (distinct (listed s′))
   pub others : (j : ℕ) → (j ≡ n → ⊥) → T (member j (listed s)) → T (member j (listed s′))
   pub own-list : T (isReserved t) → T (member n (listed s′))
-  pub own-group : T (isReserved t) → T (openAt s (t .group))
+  pub own-group : T (isReserved t) → T (openAt s (groupOf t))
   pub own-fit : T (isReserved t) → Fit t (s .settings .thousandth)
   pub own-account : T (isAdmitted t) → Account t (s′ .meter)
+  pub own-tag : T (isEffort t) → TagFacts t (limitOf (s .settings)) (s′ .time) (s′ .meter) (eqb (s′ .running) n)
+  pub tags : (j : ℕ) → (j ≡ n → ⊥) → T (effortAt s j)
+      → TagFacts (threadAt s j) (limitOf (s .settings)) (s′ .time) (s′ .meter) (eqb (s′ .running) j)
+  pub time-paid : s′ .time ≤ tagUnit * s′ .meter
   pub own-status : t .status ≤ 2
   pub room : (g : ℕ) → T (openAt s g) → load s g + shareOf t g ≤ (groupAt s g) .ceiling + shareOf (threadAt s n) g
   pub run : (s′ .running ≡ 64 → ⊥) → RunFacts s′
@@ -90,7 +94,7 @@ module _ (s : Scheduler) (k : Facts s) (n : ℕ) (small : n < 64) (t : Thread) (
       record {
         small = q .small;
         in-list = c .others j ne (q .in-list);
-        in-group = subst (λ (u : Thread). T (openAt s′ (u .group))) (sym e) (opens ((threadAt s j) .group) (q .in-group));
+        in-group = subst (λ (u : Thread). T (openAt s′ (groupOf u))) (sym e) (opens (groupOf (threadAt s j)) (q .in-group));
         fit = subst (λ (u : Thread). Fit u (s′ .settings .thousandth)) (sym e)
             (subst (λ (z : Settings). Fit (threadAt s j) (z .thousandth)) (sym (c .settings)) (q .fit));
       }
@@ -102,7 +106,7 @@ module _ (s : Scheduler) (k : Facts s) (n : ℕ) (small : n < 64) (t : Thread) (
       record {
         small = small;
         in-list = c .own-list b;
-        in-group = subst (λ (u : Thread). T (openAt s′ (u .group))) (sym at-n) (opens (t .group) (c .own-group b));
+        in-group = subst (λ (u : Thread). T (openAt s′ (groupOf u))) (sym at-n) (opens (groupOf t) (c .own-group b));
         fit = subst (λ (u : Thread). Fit u (s′ .settings .thousandth)) (sym at-n)
             (subst (λ (z : Settings). Fit t (z .thousandth)) (sym (c .settings)) (c .own-fit b));
       }
@@ -130,6 +134,17 @@ module _ (s : Scheduler) (k : Facts s) (n : ℕ) (small : n < 64) (t : Thread) (
       each (λ j. T (isAdmitted (threadAt s′ j)) → j < 64)
       (λ _. small)
       (λ j ne a. k .small j (subst (λ (u : Thread). T (isAdmitted u)) (at-other j ne) a))
+
+  effort-all : (j : ℕ) → T (effortAt s′ j)
+      → TagFacts (threadAt s′ j) (limitOf (s′ .settings)) (s′ .time) (s′ .meter) (eqb (s′ .running) j)
+  unfolding effortAt
+  effort-all =
+      let P : Settings → ℕ → Thread → Type 0 =
+      λ z j u. T (isEffort u) → TagFacts u (limitOf z) (s′ .time) (s′ .meter) (eqb (s′ .running) j) in
+      subst (λ (z : Settings). (j : ℕ) → P z j (threadAt s′ j)) (sym (c .settings))
+      (each (λ j. P (s .settings) j (threadAt s′ j))
+      (subst (P (s .settings) n) (sym at-n) (c .own-tag))
+      (λ j ne. subst (P (s .settings) j) (sym (at-other j ne)) (c .tags j ne)))
 
   -- the loads
   load-change : (g : ℕ) → load s′ g + shareOf (threadAt s n) g ≡ load s g + shareOf t g
@@ -178,10 +193,22 @@ module _ (s : Scheduler) (k : Facts s) (n : ℕ) (small : n < 64) (t : Thread) (
         (λ j ne l. subst (λ (u : Thread). u .status ≤ 2) (sym (at-other j ne)) (k .status j l));
     small = small-all;
     account = account-all;
+    effort = effort-all;
     thread = each (λ j. T (reservedAt s′ j) → ThreadFacts s′ j) own-facts other-facts;
     count64 = c .count64;
     members = c .members;
     once = c .once;
     run = c .run;
     meter = c .meter-most;
+    time = c .time-paid;
   }
+
+-- The other threads' tags where a run has ended and the virtual time stays.
+pub tags-off : (s : Scheduler) → Facts s → (meter′ : ℕ) → s .meter ≤ meter′ → (j : ℕ) → T (effortAt s j)
+    → TagFacts (threadAt s j) (limitOf (s .settings)) (s .time) meter′ (eqb 64 j)
+tags-off s k meter′ le j e =
+    keep-run (k .effort j e) meter′ le (eqb 64 j)
+    (λ u. absurd (never (k .small j (effort-admitted s j e)) (eqb-true 64 j (is (eqb 64 j) u))))
+  where
+    never : j < 64 → 64 ≡ j → ⊥
+    never l z = omega arith

@@ -11,7 +11,7 @@ use Rattle.scheduler.specs.declared.Thread.{Thread}
 use Rattle.scheduler.specs.declared.Scheduler.{Scheduler}
 use Rattle.scheduler.specs.declared.Answer.{Answer}
 use Rattle.scheduler.specs.declared.Answer.the-variants.{Accepted, Refused}
-use Rattle.scheduler.specs.State.{threadAt, reservedAt, reservationAt, isAdmitted, withThread}
+use Rattle.scheduler.specs.State.{threadAt, reservedAt, reservationAt, isReserved, groupOf, withThread}
 use Rattle.scheduler.specs.Sound.{sound}
 use Rattle.scheduler.specs.Refusals.{change, free, roomFor, checks, refusal}
 use Rattle.scheduler.specs.Effects.{changedThread, effect}
@@ -28,20 +28,20 @@ module _ (s : Scheduler) (n d : ℕ) where
 
   -- the checks after the first two, of an entry
   abbrev more : Thread → ℕ
-  more t = cond (eqb (s .running) n) 9 (cond (not (within 1 1000 d)) 4 (cond (ltb (free s (t .group) + t .reservation) d) 5 0))
+  more t = cond (eqb (s .running) n) 9 (cond (not (within 1 1000 d)) 4 (cond (ltb (free s (groupOf t) + t .reservation) d) 5 0))
 
   -- and all of them, with the result of the soundness test and the room
   abbrev number : Bool → ℕ → ℕ
   number ok room =
       firstOf
       ((not ok ⇒ 16)
-      ∷ (ltb 63 n || not (isAdmitted entry) ⇒ 7)
+      ∷ (ltb 63 n || not (isReserved entry) ⇒ 7)
       ∷ (eqb (s .running) n ⇒ 9)
       ∷ (not (within 1 1000 d) ⇒ 4)
       ∷ (ltb room d ⇒ 5)
       ∷ [])
 
-  pub change-number : (ok : Bool) → ok ≡ sound s → (room : ℕ) → (ok ≡ true → room ≡ free s (entry .group) + entry .reservation) → (k : ℕ)
+  pub change-number : (ok : Bool) → ok ≡ sound s → (room : ℕ) → (ok ≡ true → room ≡ free s (groupOf entry) + entry .reservation) → (k : ℕ)
       → k ≡ number ok room → k ≡ refusal (change n d) s
   unfolding refusal checks firstOf reservedAt reservationAt roomFor
   change-number ok e room r k q =
@@ -49,8 +49,8 @@ module _ (s : Scheduler) (n d : ℕ) where
       (λ t.
       q
       ∙ ap (number ok) (r t)
-      ∙ ap (λ (b : Bool). number b (free s (entry .group) + entry .reservation)) e
-      ∙ ap (λ (j : ℕ). cond (not (sound s)) 16 j) (looked-up s n more))
+      ∙ ap (λ (b : Bool). number b (free s (groupOf entry) + entry .reservation)) e
+      ∙ ap (λ (j : ℕ). cond (not (sound s)) 16 j) (looked-up s n (λ t. isReserved t) more))
       (λ t. q ∙ rw (t, sym e ∙ t))
 
   module _ (k : ℕ) (e : k ≡ refusal (change n d) s) where

@@ -130,7 +130,7 @@ group-done c s n k new d f e small a q g u =
     (λ t.
     let is : g ≡ groupAt s (n % 16) = cc in
     ap (withGroup s (n % 16)) is
-    ∙ ap (λ (l : List Group). stateOf (s .threads) (s .order) l (s .meter) (s .settings) (s .count) (s .running))
+    ∙ ap (λ (l : List Group). stateOf (s .threads) (s .order) l (s .meter) (s .time) (s .settings) (s .count) (s .running))
     (set-getD (s .groups) (n % 16) noGroup))
 
 module _ (s : Scheduler) (n p d k : ℕ) (e : k ≡ refusal (openGroup n p d) s) where
@@ -159,7 +159,7 @@ module _ (s : Scheduler) (n k : ℕ) (e : k ≡ refusal (closeGroup n) s) where
 
 -- the state with an entry of the threads, an entry of the order and the count replaced
 abbrev pub entered : Scheduler → ℕ → Thread → ℕ → ℕ → ℕ → Scheduler
-entered s i t r o j = stateOf (set (s .threads) i t) (set (s .order) r o) (s .groups) (s .meter) (s .settings) j (s .running)
+entered s i t r o j = stateOf (set (s .threads) i t) (set (s .order) r o) (s .groups) (s .meter) (s .time) (s .settings) j (s .running)
 
 module _ (s : Scheduler) (n g f k : ℕ) (e : k ≡ refusal (admit n g f) s) where
   module _ (t : eqb k 0 ≡ true) where
@@ -191,7 +191,7 @@ module _ (s : Scheduler) (n g f k : ℕ) (e : k ≡ refusal (admit n g f) s) whe
 
     entered-old : eqb k 0 ≡ false → entered s (n % 64) t (s .count % 64) o j ≡ s
     entered-old b =
-        let old = stateOf (s .threads) (s .order) (s .groups) (s .meter) (s .settings) (s .count) (s .running) in
+        let old = stateOf (s .threads) (s .order) (s .groups) (s .meter) (s .time) (s .settings) (s .count) (s .running) in
         let same : entered s (n % 64) t (s .count % 64) o j ≡ old =
         cc (set-getD (s .threads) (n % 64) noThread, set-getD (s .order) (s .count % 64) 0) in
         same

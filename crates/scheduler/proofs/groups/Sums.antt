@@ -14,7 +14,7 @@ use Rattle.base.proofs.Bools.{by, and-l, holds, is, clash}
 use Rattle.base.proofs.Sums.{sum-more}
 use Rattle.scheduler.specs.declared.Group.{Group}
 use Rattle.scheduler.specs.declared.Scheduler.{Scheduler}
-use Rattle.scheduler.specs.State.{noGroup, isOpen, threadAt, groupAt, admittedAt, reservedAt, reservationAt, openAt, listed}
+use Rattle.scheduler.specs.State.{groupOf, noGroup, isOpen, threadAt, groupAt, admittedAt, reservedAt, reservationAt, openAt, listed}
 use Rattle.scheduler.specs.Sound.{threadIn, childOf, reservedIn, ceilingsIn, load}
 use Rattle.scheduler.specs.Refusals.{free, inUse}
 use Rattle.scheduler.specs.Inner.{Sums}
@@ -140,7 +140,7 @@ either a b =
 
 positive : (s : Scheduler) → Facts s → (g n : ℕ) → T (threadIn s g n) → 1 ≤ reservationAt s n
 unfolding threadIn reservationAt
-positive s k g n t = (k .thread n (and-l (reservedAt s n) (eqb ((threadAt s n) .group) g) t)) .fit .positive
+positive s k g n t = (k .thread n (and-l (reservedAt s n) (eqb (groupOf (threadAt s n)) g) t)) .fit .positive
 
 pub in-use : (s : Scheduler) → Facts s → (g : ℕ) → inUse s g ≡ not (eqb (load s g) 0)
 unfolding inUse load reservedIn ceilingsIn

@@ -1,7 +1,7 @@
 -- The parts of the test together are `sound`. The list's test and the threads' tests meet in `entryOk`: every number in the list is
--- that of an admitted thread just where no free number is marked. The running thread's test is shared out between the meter's part
+-- that of a reserved thread just where no other number is marked. The running thread's test is shared out between the meter's part
 -- and the threads' part; a runnable thread is admitted.
-use Prim.Native.Nat.{_≤_, _<_}
+use Prim.Native.Nat.{_*_, _≤_, _<_}
 use mathlib.Core.Path.{_≡_, sym, subst}
 use mathlib.Core.List.{List}
 use mathlib.Core.Bool.{Bool, true, false, not, _&&_, _||_}
@@ -21,8 +21,10 @@ use Rattle.scheduler.specs.declared.Settings.{Settings}
 use Rattle.scheduler.specs.declared.Scheduler.{Scheduler}
 use Rattle.scheduler.specs.State.{threadAt, admittedAt, reservedAt, runnableAt, listed}
 use Rattle.scheduler.specs.State.{meterLimit, meterMost, sliceMost}
+use Rattle.fair.specs.Tags.{tagUnit}
 use Rattle.scheduler.specs.Sound.{settingsOk, groupsOk, threadOk, listOk, runningOk, shapeOk, sound}
 use Rattle.scheduler.specs.Inner.{entryOk}
+use Rattle.scheduler.proofs.Facts.{settings-facts}
 use Rattle.scheduler.proofs.Scheduler as scheduler
 use Rattle.scheduler.proofs.sound.Laws.{same}
 
@@ -150,6 +152,7 @@ module _ (s : Scheduler) where
     pub list : (low && distinct (listed s)) ≡ true
     pub threads : (entries && runs) ≡ true
     pub groups : groupsOk s ≡ true
+    pub time : s .time ≤ tagUnit * s .meter
 
   parts-of : T (sound s) → Parts
   unfolding sound listOk
@@ -161,16 +164,19 @@ module _ (s : Scheduler) where
       let number : Bool = leb (s .running) 64 in
       let early : Bool = idle || ltb (s .meter) meterLimit in
       let rest : Bool = shapeOk s && settingsOk (s .settings) && groupsOk s && threads && list && runningOk s in
-      let q = out (shapeOk s) (settingsOk (s .settings)) (groupsOk s) threads list (runningOk s) (and-l rest most z) in
+      let timed : Bool = leb (s .time) (tagUnit * s .meter) in
+      let y = and-l (rest && most) timed z in
+      let q = out (shapeOk s) (settingsOk (s .settings)) (groupsOk s) threads list (runningOk s) (and-l rest most y) in
       let all = and-r few held (and-l (few && held) once (q .4)) in
       let k = runs-of (q .5) in
       record {
         settings = is (settingsOk (s .settings)) (q .1);
-        meter = is (most && number && early) (both (most && number) early (both most number (and-r rest most z) (k .number)) (k .early));
+        meter = is (most && number && early) (both (most && number) early (both most number (and-r rest most y) (k .number)) (k .early));
         few = leb→le (s .count) 64 (and-l few held (and-l (few && held) once (q .4)));
         list = is (low && once) (both low once (held-low all) (and-r (few && held) once (q .4)));
         threads = is (entries && runs) (both entries runs (entries-of (q .3) all) (k .runnable));
         groups = is (groupsOk s) (q .2);
+        time = leb→le (s .time) (tagUnit * s .meter) (and-r (rest && most) timed z);
       }
 
   sound-of : T (shapeOk s) → Parts → T (sound s)
@@ -187,7 +193,8 @@ module _ (s : Scheduler) where
       let pass = holds (entries && runs) (k .threads) in
       let each = and-l entries runs pass in
       let entry = holds (low && once) (k .list) in
-      both (shapeOk s && settingsOk (s .settings) && groupsOk s && threads && list && runningOk s) most
+      both (shapeOk s && settingsOk (s .settings) && groupsOk s && threads && list && runningOk s && most) (leb (s .time) (tagUnit * s .meter))
+      (both (shapeOk s && settingsOk (s .settings) && groupsOk s && threads && list && runningOk s) most
       (into (shapeOk s) (settingsOk (s .settings)) (groupsOk s) threads list (runningOk s) (
         h,
         holds (settingsOk (s .settings)) (k .settings),
@@ -201,7 +208,8 @@ module _ (s : Scheduler) where
           runnable = and-r entries runs pass;
         }),
       ))
-      (and-l most number limits)
+      (and-l most number limits))
+      (le→leb (s .time) (tagUnit * s .meter) (k .time))
 
   pub unsound : (Parts → ⊥) → false ≡ sound s
   unsound f = same false (sound s) (λ z. absurd z) (λ z. absurd (f (parts-of z)))
@@ -214,12 +222,7 @@ module _ (s : Scheduler) where
 -- What the settings' and the meter's tests say of m and the running thread.
 
 pub settings-most : (k : Settings) → settingsOk k ≡ true → k .thousandth ≤ 1000
-unfolding settingsOk within
-settings-most k e =
-    let m : Bool = within 1 1000 (k .thousandth) in
-    let p : Bool = within 1 sliceMost (k .interval) in
-    leb→le (k .thousandth) 1000 (and-r (leb 1 (k .thousandth)) (leb (k .thousandth) 1000)
-    (and-l m p (and-l (m && p) (ltb (k .overrun) (k .thousandth)) (holds (settingsOk k) e))))
+settings-most k e = (settings-facts k (holds (settingsOk k) e)) .1
 
 pub running-most : (s : Scheduler)
     → (leb (s .meter) meterMost && leb (s .running) 64 && (eqb (s .running) 64 || ltb (s .meter) meterLimit)) ≡ true → s .running ≤ 64
@@ -228,6 +231,14 @@ running-most s e =
     let number : Bool = leb (s .running) 64 in
     let early : Bool = eqb (s .running) 64 || ltb (s .meter) meterLimit in
     leb→le (s .running) 64 (and-r most number (and-l (most && number) early (holds (most && number && early) e)))
+
+pub meter-most : (s : Scheduler)
+    → (leb (s .meter) meterMost && leb (s .running) 64 && (eqb (s .running) 64 || ltb (s .meter) meterLimit)) ≡ true → s .meter ≤ meterMost
+meter-most s e =
+    let most : Bool = leb (s .meter) meterMost in
+    let number : Bool = leb (s .running) 64 in
+    let early : Bool = eqb (s .running) 64 || ltb (s .meter) meterLimit in
+    leb→le (s .meter) meterMost (and-l most number (and-l (most && number) early (holds (most && number && early) e)))
 
 -- The tables are as long as their types say, from what owning the state tells.
 pub shaped : (s : Scheduler) (vs : List Val) → Is (row scheduler.the-type) s vs → T (shapeOk s)

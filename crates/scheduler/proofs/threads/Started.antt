@@ -24,7 +24,7 @@ module _ (m p o : ℕ) where
   -- the zeros with the settings, group 0 and no running thread
   abbrev given : Scheduler → Scheduler
   given z =
-      stateOf (z .threads) (z .order) (set (z .groups) 0 (record { ceiling = 1000; parent = 0; opened = 1 })) (z .meter)
+      stateOf (z .threads) (z .order) (set (z .groups) 0 (record { ceiling = 1000; parent = 0; opened = 1 })) (z .meter) (z .time)
       (record { interval = p; thousandth = m; overrun = o }) (z .count) 64
 
   module _ (z : Scheduler) (q : z ≡ unstarted) where

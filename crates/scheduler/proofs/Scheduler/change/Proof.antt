@@ -1,7 +1,11 @@
 -- `Scheduler::change` meets its contract: the code decides, and what is stored is the changed thread or the old one.
 use Prim.Native.Nat.{ℕ, _+_, _%_}
-use mathlib.Core.Path.{_≡_, refl, ap}
+use mathlib.Core.Path.{_≡_, refl, ap, _∙_}
+use mathlib.Core.List.{[], _∷_}
+use mathlib.Core.Bool.{Bool, not, _||_}
+use lib.Dec.{ltb, eqb}
 use borrow.Author.Needs.{needs}
+use Rattle.base.specs.Checks.{within, _⇒_, firstOf}
 use Rattle.scheduler.specs.declared.Scheduler.{Scheduler}
 use Rattle.scheduler.specs.State.{threadAt, withThread}
 use Rattle.scheduler.specs.Refusals.{change, refusal}
@@ -11,7 +15,7 @@ use Rattle.scheduler.proofs.Scheduler.change.Tie as tie
 
 module _ (c : tie.After-change-code) where
   abbrev free : tie.After-free-in
-  free = c .before .before
+  free = c .before .before .before
 
   abbrev first : tie.After-tested
   first = free .before .before .before .before .before .before
@@ -31,7 +35,13 @@ module _ (c : tie.After-change-code) where
       let own = (threadAt S (N % 64)) .reservation in
       change-number S N F (first .tested .result .ok) (test .test) (free .free-in .result + own)
       (λ w. ap (λ (j : ℕ). j + own) (free .free-in .ensures .1 S refl (λ h. free .before .load-of .ensures S refl (test .sums w) h)))
-      (c .change-code .result) (c .change-code .ensures)
+      (c .change-code .result)
+      (c .change-code .ensures ∙ ap (checked (first .tested .result .ok) (free .free-in .result + own)) (c .before .is-reserved .ensures))
+    where
+      -- the checks, with the kind as the code finds it
+      checked : Bool → ℕ → Bool → ℕ
+      checked ok room reserved =
+          firstOf ((not ok ⇒ 16) ∷ (ltb 63 N || not reserved ⇒ 7) ∷ (eqb (S .running) N ⇒ 9) ∷ (not (within 1 1000 F) ⇒ 4) ∷ (ltb room F ⇒ 5) ∷ [])
 
 tested-requires : tie.Need-tested-requires
 tested-requires c κs = search needs
@@ -56,6 +66,9 @@ cast-own c = search needs
 
 add-room : tie.Need-add-room
 add-room c = search needs
+
+is-reserved-requires : tie.Need-is-reserved-requires
+is-reserved-requires c κs = search needs
 
 change-code-requires : tie.Need-change-code-requires
 change-code-requires c κs = search needs
@@ -92,6 +105,7 @@ change-spec =
     free-in-requires
     cast-own
     add-room
+    is-reserved-requires
     change-code-requires
     changed-if-requires
     mul-thread

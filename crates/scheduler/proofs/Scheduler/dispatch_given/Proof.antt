@@ -139,11 +139,20 @@ loop-again-2 c =
 cast-place : tie.Need-cast-place Inv-loop μ-loop
 cast-place c = search needs
 
-element-copy-out-number-2 : tie.Need-element-copy-out-number-2 Inv-loop μ-loop
-element-copy-out-number-2 c = search needs
+element-copy-out-first : tie.Need-element-copy-out-first Inv-loop μ-loop
+element-copy-out-first c = search needs
 
-cast-number-2 : tie.Need-cast-number-2 Inv-loop μ-loop
-cast-number-2 c = search needs
+cast-first : tie.Need-cast-first Inv-loop μ-loop
+cast-first c = search needs
+
+running-after-requires : tie.Need-running-after-requires Inv-loop μ-loop
+running-after-requires c κs = search needs
+
+choice-of-requires : tie.Need-choice-of-requires Inv-loop μ-loop
+choice-of-requires c κs =
+    let l = c .before .before .before .before in
+    let t = l .before in
+    omega (arith, l .loop .inv .0, l .loop .inv .1, look-most (S t) (code t) (number t) (count t) (part t))
 
 cast-thread-2 : tie.Need-cast-thread-2 Inv-loop μ-loop
 cast-thread-2 c = search needs
@@ -157,8 +166,11 @@ element-copy-out-thread-2 c = search needs
 slice-requires : tie.Need-slice-requires Inv-loop μ-loop
 slice-requires c κs = search needs
 
-running-after-requires : tie.Need-running-after-requires Inv-loop μ-loop
-running-after-requires c κs = search needs
+time-if-requires : tie.Need-time-if-requires Inv-loop μ-loop
+time-if-requires c κs = search needs
+
+running-after-requires-2 : tie.Need-running-after-requires-2 Inv-loop μ-loop
+running-after-requires-2 c κs = search needs
 
 dispatched-requires : tie.Need-dispatched-requires Inv-loop μ-loop
 dispatched-requires c κs = search needs
@@ -167,8 +179,11 @@ returns : tie.Need-returns Inv-loop μ-loop
 unfolding withRun
 returns c =
     let r = c .before in
-    let z = r .before in
-    let x = z .before .before .before in
+    let v′ = r .before in
+    let z = v′ .before in
+    let h = z .before .before in
+    let y = h .before .before in
+    let x = y .before .before in
     let l = x .before in
     let t = l .before in
     let n = l .loop .before in
@@ -179,7 +194,9 @@ returns c =
     (λ y. omega (arith, v .2, v .3 (omega (arith, x .loop-test .left, ltb-true n (count t) y))))
     (λ y. omega (arith, v .2, end (runnableAt s) (s .order) (count t) n (omega (arith, ltb-false n (count t) y)))) in
     dispatch-done s (code t) (number t) (count t) (part t) n (omega (arith, v .0, v .1)) found
-    (z .slice .result) (z .slice .ensures) (r .running-after .result) (r .running-after .ensures)
+    (y .running-after .result) (y .running-after .ensures) (h .choice-of .result .number) (h .choice-of .ensures .0)
+    (h .choice-of .result .before) (h .choice-of .ensures .1) (z .slice .result) (z .slice .ensures)
+    (v′ .time-if .result) (v′ .time-if .ensures) (r .running-after2 .result) (r .running-after2 .ensures)
     (c .dispatched .result) (c .dispatched .ensures)
 
 pub dispatch-given-spec : {M : Type 1} → statement M
@@ -202,12 +219,15 @@ dispatch-given-spec =
     loop-less-2
     loop-again-2
     cast-place
-    element-copy-out-number-2
-    cast-number-2
+    element-copy-out-first
+    cast-first
+    running-after-requires
+    choice-of-requires
     cast-thread-2
     mul-thread-2
     element-copy-out-thread-2
     slice-requires
-    running-after-requires
+    time-if-requires
+    running-after-requires-2
     dispatched-requires
     returns)

@@ -3,6 +3,9 @@ use Prim.Native.Nat.{ℕ}
 use mathlib.Core.Path.{_≡_, sym, _∙_}
 use borrow.Author.Needs.{needs}
 use borrow.Author.Tests.{eqb-true}
+use mathlib.Core.Bool.{_&&_}
+use lib.Dec.{eqb}
+use Rattle.base.proofs.Bools.{and-l, and-r, is, holds}
 use Rattle.scheduler.specs.declared.Scheduler.{Scheduler}
 use Rattle.scheduler.specs.Refusals.{remove, refusal}
 use Rattle.scheduler.proofs.threads.Replies.{remove-number, remove-listed, remove-done}
@@ -41,6 +44,9 @@ element-copy-out-thread c = search needs
 remove-code-requires : tie.Need-remove-code-requires
 remove-code-requires c κs = search needs
 
+has-reservation-requires : tie.Need-has-reservation-requires
+has-reservation-requires c κs = search needs
+
 freed-requires : tie.Need-freed-requires
 freed-requires c κs = search needs
 
@@ -61,8 +67,12 @@ element-set-from-freed c = search needs
 
 count-after-requires : tie.Need-count-after-requires
 count-after-requires c κs = λ z.
-    let k = c .before .before .before in
-    (remove-listed (S k) (N k) (sym (number k) ∙ eqb-true (code k) 0 z)) .some
+    let h = c .before .before in
+    let k = h .before .before in
+    let b = eqb (code k) 0 in
+    let t = holds (b && h .has-reservation .result) z in
+    (remove-listed (S k) (N k) (sym (number k) ∙ eqb-true (code k) 0 (is b (and-l b (h .has-reservation .result) t)))
+    (sym (h .has-reservation .ensures) ∙ is (h .has-reservation .result) (and-r b (h .has-reservation .result) t))) .some
 
 answered-requires : tie.Need-answered-requires
 answered-requires c κs = search needs
@@ -72,8 +82,10 @@ returns c =
     let n = c .before in
     let q = n .before in
     let f = q .before in
-    let k = f .before .before in
-    remove-done (S k) (N k) (code k) (number k) (c .answered .result) (c .answered .ensures) (f .freed .result) (f .freed .ensures)
+    let h = f .before in
+    let k = h .before .before in
+    remove-done (S k) (N k) (code k) (number k) (c .answered .result) (c .answered .ensures)
+    (h .has-reservation .result) (h .has-reservation .ensures) (f .freed .result) (f .freed .ensures)
     (q .requeued .result) (q .requeued .ensures) (n .count-after .result) (n .count-after .ensures)
 
 pub remove-given-spec : {M : Type 1} → statement M
@@ -85,6 +97,7 @@ remove-given-spec =
     mul-thread
     element-copy-out-thread
     remove-code-requires
+    has-reservation-requires
     freed-requires
     cast-requeued
     cast-requeued-2

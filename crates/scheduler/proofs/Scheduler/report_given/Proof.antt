@@ -1,12 +1,13 @@
 -- `report_given` meets its contract: the number is the refusal's, and where it is 0 the state is the reported one.
-use Prim.Native.Nat.{ℕ}
-use mathlib.Core.Path.{_≡_, refl, sym, _∙_}
-use mathlib.Core.Bool.{true}
-use lib.Dec.{eqb}
+use Prim.Native.Nat.{ℕ, _%_}
+use mathlib.Core.Path.{_≡_, refl, sym, subst, _∙_}
+use mathlib.Core.Bool.{true, _&&_}
+use lib.Dec.{T, eqb}
 use borrow.Author.Needs.{needs}
 use borrow.Author.Tests.{eqb-true}
-use Rattle.base.proofs.Bools.{and-l, is, holds}
+use Rattle.base.proofs.Bools.{and-l, and-r, is, holds}
 use Rattle.scheduler.specs.declared.Scheduler.{Scheduler}
+use Rattle.scheduler.specs.State.{hasReservation, threadAt}
 use Rattle.scheduler.specs.Refusals.{report, refusal}
 use Rattle.scheduler.proofs.threads.Report.{report-number, Ready, ready, report-done}
 use Rattle.scheduler.proofs.Scheduler.report_given.Statement.{statement}
@@ -39,7 +40,8 @@ returns : tie.Need-returns
 returns c =
     let x = c .before in
     let n = x .before in
-    let q = n .before in
+    let y = n .before in
+    let q = y .before in
     let v = q .before in
     let t = v .before in
     let m = t .before in
@@ -47,7 +49,7 @@ returns c =
     report-done (S k) (reason k) (used k) (k .report-code .result) (number k) (c .answered .result) (c .answered .ensures)
     (t .reported .result) (t .reported .ensures (S k) (λ z. sym (m .meter-after .ensures ∙ rw z)) refl)
     (v .moves .result) (v .moves .ensures) (q .requeued .result) (q .requeued .ensures)
-    (m .meter-after .result) (m .meter-after .ensures) (n .count-after .result) (n .count-after .ensures)
+    (m .meter-after .result) (m .meter-after .ensures) (y .leaves .result) (y .leaves .ensures) (n .count-after .result) (n .count-after .ensures)
     (x .running-after .result) (x .running-after .ensures)
 
 cast-at : tie.Need-cast-at
@@ -66,7 +68,7 @@ report-code-requires : tie.Need-report-code-requires
 report-code-requires c κs = search needs
 
 meter-after-requires : tie.Need-meter-after-requires
-meter-after-requires c κs = λ z. let r = known (c .before) z in (r .meter, r .bounds .short)
+meter-after-requires c κs = λ z. let r = known (c .before) z in (r .meter, r .short)
 
 reported-requires : tie.Need-reported-requires
 reported-requires c κs = λ z. known (c .before .before) z .bounds
@@ -74,11 +76,11 @@ reported-requires c κs = λ z. known (c .before .before) z .bounds
 moves-requires : tie.Need-moves-requires
 moves-requires c κs = search needs
 
+cast-length : tie.Need-cast-length
+cast-length c = search needs
+
 cast-requeued : tie.Need-cast-requeued
 cast-requeued c = search needs
-
-cast-requeued-2 : tie.Need-cast-requeued-2
-cast-requeued-2 c = search needs
 
 requeued-requires : tie.Need-requeued-requires
 requeued-requires c κs = search needs
@@ -89,11 +91,17 @@ mul-reported c = search needs
 element-set-from-reported : tie.Need-element-set-from-reported
 element-set-from-reported c = search needs
 
+leaves-requires : tie.Need-leaves-requires
+leaves-requires c κs = search needs
+
 count-after-requires : tie.Need-count-after-requires
 count-after-requires c κs = λ z.
-    let k = c .before .before .before .before .before in
+    let k = c .before .before .before .before .before .before in
     let b = eqb (k .report-code .result) 0 in
-    (known k (is b (and-l b (eqb (reason k) 3) (holds _ z)))) .list .some
+    let t = holds (b && c .leaves .result) z in
+    let h = hasReservation (threadAt (S k) (S k .running % 64)) in
+    let left : T (h && eqb (reason k) 3) = subst T (c .leaves .ensures) (and-r b (c .leaves .result) t) in
+    (known k (is b (and-l b (c .leaves .result) t))) .list (is h (and-l h (eqb (reason k) 3) left)) .some
 
 running-after-requires : tie.Need-running-after-requires
 running-after-requires c κs = search needs
@@ -110,14 +118,15 @@ report-given-spec =
     element-copy-out-thread
     slice-requires
     report-code-requires
+    cast-length
     meter-after-requires
     reported-requires
     moves-requires
     cast-requeued
-    cast-requeued-2
     requeued-requires
     mul-reported
     element-set-from-reported
+    leaves-requires
     count-after-requires
     running-after-requires
     answered-requires

@@ -1,17 +1,19 @@
 -- `Scheduler::tested` meets its contract: each failure by the part that failed, and the last by the groups' test, where all else
 -- passed. Assumes nothing.
-use mathlib.Core.Path.{_≡_, sym, _∙_}
+use mathlib.Core.Path.{_≡_, refl, sym, _∙_}
 use mathlib.Core.Bool.{Bool, true, false, false≢true}
 use mathlib.Core.List.{List}
-use Prim.Native.Nat.{ℕ}
+use Prim.Native.Nat.{ℕ, _≤_}
 use Rattle.scheduler.specs.declared.Scheduler.{Scheduler}
-use Rattle.scheduler.specs.Sound.{sound}
+use Rattle.scheduler.specs.Sound.{settingsOk, sound}
 use native.Mathlib.Omega.{arith}
 use borrow.Author.Needs.{needs}
 use borrow.Author.Tests.{not-true, not-false}
-use Rattle.scheduler.specs.State.{listed}
+use Rattle.base.proofs.Bools.{holds}
+use Rattle.scheduler.specs.State.{listed, meterMost}
 use Rattle.scheduler.specs.Inner.{ListSeen, ThreadsPass, Tested}
-use Rattle.scheduler.proofs.sound.Whole.{Parts, unsound, whole, shaped, settings-most, running-most}
+use Rattle.scheduler.proofs.Facts.{settings-facts}
+use Rattle.scheduler.proofs.sound.Whole.{Parts, unsound, whole, shaped, settings-most, running-most, meter-most}
 use Rattle.scheduler.proofs.Scheduler.tested.Statement.{statement}
 use Rattle.scheduler.proofs.Scheduler.tested.Tie as tie
 
@@ -20,16 +22,19 @@ fails s ok used e u = record { test = e ∙ u; sums = λ z. absurd (false≢true
 
 -- the places that the needs look back to, nearest first: past the list's test, the pass over the list, past the meter's and the settings'
 -- tests; and the state tested
-abbrev fourth : tie.After-threads → tie.Else4
-fourth c = c .before .before .before
+abbrev fifth : tie.After-threads → tie.Else5
+fifth c = c .before .before .before
 
 abbrev list-pass : tie.After-threads-pass → tie.After-list-seen
-list-pass c = (fourth (c .before .before)) .before .before
+list-pass c = (fifth (c .before .before)) .before .before
 
-abbrev second : tie.After-list-seen → tie.Else2
-second c = c .before .before .before
+abbrev fourth : tie.After-list-seen → tie.Else4
+fourth c = c .before .before .before .before
 
-abbrev first : tie.After-list-seen → tie.Else1
+abbrev second : tie.Else3 → tie.Else2
+second c = c .before
+
+abbrev first : tie.Else3 → tie.Else1
 first c = (second c) .before .before
 
 abbrev state : tie.Else1 → Scheduler
@@ -68,13 +73,18 @@ returns-3 c =
     let d = c .before in
     fails _ _ _ (c .failed3 .ensures) (unsound (state (d .before .before .before)) (λ k. omega (arith, k .few, d .if3 .taken)))
 
-list-seen-requires : tie.Need-list-seen-requires
-list-seen-requires c κs = search needs
+-- the meter is in range, so that the most that a tag may be fits
+metered : (c : tie.Else3) → (state (first c)) .meter ≤ meterMost
+metered c =
+    let s = state (first c) in
+    let b = second c in
+    meter-most s (sym (b .before .meter-ok .ensures) ∙ not-false _ (b .if2 .left))
 
--- what the pass over the list says of this state
-seen : (c : tie.After-list-seen) → ListSeen (listed (state (first c))) (c .list-seen .result .ok) (c .list-seen .result .seen)
-unfolding listed
-seen c = c .list-seen .ensures
+set : (c : tie.Else3) → settingsOk ((state (first c)) .settings) ≡ true
+set c = sym ((first c) .before .ok .ensures) ∙ not-false _ ((first c) .if1 .left)
+
+mul-most : tie.Need-mul-most
+mul-most c = omega (arith, metered c)
 
 failed-requires-4 : tie.Need-failed-requires-4
 failed-requires-4 c κs = search needs
@@ -82,28 +92,25 @@ failed-requires-4 c κs = search needs
 returns-4 : tie.Need-returns-4
 returns-4 c =
     let d = c .before in
-    fails _ _ _ (c .failed4 .ensures)
-    (unsound (state (first (d .before .before)))
-    (λ k. false≢true (sym (not-true _ (d .if4 .taken)) ∙ seen (d .before .before) .test ∙ k .list)))
+    fails _ _ _ (c .failed4 .ensures) (unsound (state (first (d .before))) (λ k. omega (arith, k .time, d .if4 .taken)))
 
-cast-threads-pass : tie.Need-cast-threads-pass
-cast-threads-pass c = search needs
+cast-limit : tie.Need-cast-limit
+cast-limit c = search needs
 
-threads-pass-requires : tie.Need-threads-pass-requires
-threads-pass-requires c κs =
-    let l = (fourth (c .before)) .before .before in
-    let a = first l in
-    let b = second l in (
-      settings-most ((state a) .settings) (sym (a .before .ok .ensures) ∙ not-false _ (a .if1 .left)),
-      running-most (state a) (sym (b .before .meter-ok .ensures) ∙ not-false _ (b .if2 .left)),
-    )
+add-limit : tie.Need-add-limit
+add-limit c =
+    let e = c .before .before .before in
+    let z = settings-facts ((state (first e)) .settings) (holds _ (set e)) in
+    omega (arith, z .1, z .3, z .4)
 
--- what the pass over the threads says of this state
-passed : (c : tie.After-threads-pass)
-    → ThreadsPass (state (first (list-pass c))) (c .threads-pass .result .ok) (c .threads-pass .result .used)
-passed c =
-    let l = list-pass c in
-    c .threads-pass .ensures (state (first l)) (seen l .marks (not-false _ ((fourth (c .before .before)) .if4 .left)))
+list-seen-requires : tie.Need-list-seen-requires
+list-seen-requires c κs = c .before .before .before .before .if3 .left
+
+-- what the pass over the list says of this state
+seen : (c : tie.After-list-seen)
+    → ListSeen (listed (state (first ((fourth c) .before)))) (c .list-seen .result .ok) (c .list-seen .result .seen)
+unfolding listed
+seen c = c .list-seen .ensures
 
 failed-requires-5 : tie.Need-failed-requires-5
 failed-requires-5 c κs = search needs
@@ -111,21 +118,56 @@ failed-requires-5 c κs = search needs
 returns-5 : tie.Need-returns-5
 returns-5 c =
     let d = c .before in
+    let l = d .before .before in
     fails _ _ _ (c .failed5 .ensures)
-    (unsound (state (first (list-pass (d .before .before))))
-    (λ k. false≢true (sym (not-true _ (d .if5 .taken)) ∙ passed (d .before .before) .test ∙ k .threads)))
+    (unsound (state (first ((fourth l) .before)))
+    (λ k. false≢true (sym (not-true _ (d .if5 .taken)) ∙ seen l .test ∙ k .list)))
 
-groups-ok-requires : tie.Need-groups-ok-requires
-groups-ok-requires c κs = passed (c .before .before .before) .small (not-false _ (c .before .if5 .left))
+cast-threads-pass : tie.Need-cast-threads-pass
+cast-threads-pass c = search needs
+
+threads-pass-requires : tie.Need-threads-pass-requires
+threads-pass-requires c κs =
+    let e = (fourth ((fifth (c .before)) .before .before)) .before in
+    let b = second e in (
+      settings-most ((state (first e)) .settings) (set e),
+      running-most (state (first e)) (sym (b .before .meter-ok .ensures) ∙ not-false _ (b .if2 .left)),
+    )
+
+-- what the pass over the threads says of this state
+passed : (c : tie.After-threads-pass)
+    → ThreadsPass (state (first ((fourth (list-pass c)) .before))) (c .threads-pass .result .ok) (c .threads-pass .result .used)
+passed c =
+    let l = list-pass c in
+    c .threads-pass .ensures (state (first ((fourth l) .before))) (record {
+      marks = seen l .marks (not-false _ ((fifth (c .before .before)) .if5 .left));
+      limited = refl;
+      bounded = refl;
+    })
+
+failed-requires-6 : tie.Need-failed-requires-6
+failed-requires-6 c κs = search needs
 
 returns-6 : tie.Need-returns-6
 returns-6 c =
+    let d = c .before in
+    let p = d .before .before in
+    fails _ _ _ (c .failed6 .ensures)
+    (unsound (state (first ((fourth (list-pass p)) .before)))
+    (λ k. false≢true (sym (not-true _ (d .if6 .taken)) ∙ passed p .test ∙ k .threads)))
+
+groups-ok-requires : tie.Need-groups-ok-requires
+groups-ok-requires c κs = passed (c .before .before .before) .small (not-false _ (c .before .if6 .left))
+
+returns-7 : tie.Need-returns-7
+returns-7 c =
     let q = c .before .before .before .before in
     let l = list-pass q in
-    let a = first l in
-    let b = second l in
+    let f = fourth l in
+    let a = first (f .before) in
+    let b = second (f .before) in
     let p = passed q in
-    let ok = not-false _ (c .before .before .if5 .left) in
+    let ok = not-false _ (c .before .before .if6 .left) in
     record {
       test =
           whole (state a) (shaped (state a) _ (a .before .before .before .good .0)) (c .groups-ok .result)
@@ -133,10 +175,11 @@ returns-6 c =
           (λ g. record {
             settings = sym (a .before .ok .ensures) ∙ not-false _ (a .if1 .left);
             meter = sym (b .before .meter-ok .ensures) ∙ not-false _ (b .if2 .left);
-            few = l .before .before .if3 .left;
-            list = sym (seen l .test) ∙ not-false _ ((fourth (q .before .before)) .if4 .left);
+            few = f .before .if3 .left;
+            list = sym (seen l .test) ∙ not-false _ ((fifth (q .before .before)) .if5 .left);
             threads = sym (p .test) ∙ ok;
             groups = g;
+            time = f .if4 .left;
           });
       sums = λ _. p .sums ok;
     }
@@ -153,12 +196,17 @@ tested-spec =
     returns-2
     failed-requires-3
     returns-3
-    list-seen-requires
+    mul-most
     failed-requires-4
     returns-4
-    cast-threads-pass
-    threads-pass-requires
+    cast-limit
+    add-limit
+    list-seen-requires
     failed-requires-5
     returns-5
+    cast-threads-pass
+    threads-pass-requires
+    failed-requires-6
+    returns-6
     groups-ok-requires
-    returns-6)
+    returns-7)

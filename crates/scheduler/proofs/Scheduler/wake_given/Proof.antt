@@ -42,7 +42,7 @@ returns c =
     let a = b .args in
     let code = k .wake-code .result in
     wake-done (a .t1) (a .number) code (wake-number (a .t1) (a .number) (a .ok) (b .pre) code (k .wake-code .ensures))
-    (c .answered .result) (c .answered .ensures) (w .woken .result) (w .woken .ensures (a .t1) refl)
+    (c .answered .result) (c .answered .ensures) (w .woken .result) (w .woken .ensures (a .t1) refl refl)
 
 pub wake-given-spec : {M : Type 1} → statement M
 wake-given-spec =

@@ -29,7 +29,7 @@ returns-3 : tie.Need-returns-3
 unfolding firstOf
 returns-3 c =
     let a = c .before .before .before .before .args in
-    simp (not-false (a .ok) (c .before .before .if1 .left), le-ltb 63 (a .number) (omega arith), c .if3 .taken)
+    simp (not-false (a .ok) (c .before .before .if1 .left), le-ltb 63 (a .number) (omega arith), not-true (a .reserved) (c .if3 .taken))
 
 -- past the first three tests: the state is sound, and the thread is there
 module _ (c : tie.Else3) where
@@ -42,8 +42,8 @@ module _ (c : tie.Else3) where
   low : ltb 63 (given .args .number) ≡ false
   low = le-ltb 63 (given .args .number) (omega (arith, c .before .if2 .left))
 
-  there : ltb 0 (given .args .status) ≡ true
-  there = lt-ltb 0 (given .args .status) (omega (arith, c .if3 .left))
+  there : given .args .reserved ≡ true
+  there = not-false (given .args .reserved) (c .if3 .left)
 
 returns-4 : tie.Need-returns-4
 unfolding firstOf

@@ -9,20 +9,21 @@ use borrow.Author.Needs.{scaled-fits}
 use borrow.Author.Tests.{not-true, not-false}
 use Rattle.scheduler.specs.State.{noThread}
 use Rattle.scheduler.proofs.sound.Laws.{strict, next-fits}
-use Rattle.scheduler.proofs.sound.Threads.{numbers-of, ThreadsInv, inv-none, inv-skip, inv-free, inv-place, inv-status, inv-bounds}
+use Rattle.scheduler.proofs.sound.Threads.{numbers-of, ThreadsInv, inv-none, inv-skip, inv-stray, inv-free, inv-status, inv-bounds}
 use Rattle.scheduler.proofs.sound.Threads.{inv-home, inv-add, sum-fits, inv-idle, inv-run}
 use Rattle.scheduler.proofs.sound.threads_pass.Statement.{statement}
 use Rattle.scheduler.proofs.sound.threads_pass.Tie as tie
 
 abbrev Inv-loop : tie.InvT-loop
-Inv-loop m meter running threads groups seen used₀ i₀ used i = ThreadsInv threads groups seen m meter running i used
+Inv-loop m limit meter time most running threads groups seen used₀ i₀ used i =
+    ThreadsInv threads groups seen m limit meter time most running i used
 
 abbrev μ-loop : tie.MeasureT-loop
-μ-loop m meter running threads groups seen used₀ i₀ used i = 64 - i
+μ-loop m limit meter time most running threads groups seen used₀ i₀ used i = 64 - i
 
 -- the places that the needs look back to
 abbrev in-loop : tie.Else2 Inv-loop μ-loop → tie.In-loop Inv-loop μ-loop
-in-loop p = p .before .before .before
+in-loop p = p .before .before .before .before
 
 abbrev in-loop2 : tie.Else3 Inv-loop μ-loop → tie.In-loop Inv-loop μ-loop
 in-loop2 p = p .before .before .before
@@ -31,7 +32,7 @@ loop-holds : tie.Need-loop-holds Inv-loop μ-loop
 loop-holds c = inv-none
 
 mul-t : tie.Need-mul-t Inv-loop μ-loop
-mul-t c = scaled-fits (c .before .loop .i) 64 40 (c .loop-test .taken) (lit< tt)
+mul-t c = scaled-fits (c .before .loop .i) 64 48 (c .loop-test .taken) (lit< tt)
 
 array-copy-out-t : tie.Need-array-copy-out-t Inv-loop μ-loop
 array-copy-out-t c = c .loop-test .taken
@@ -39,14 +40,18 @@ array-copy-out-t c = c .loop-test .taken
 array-read-if1 : tie.Need-array-read-if1 Inv-loop μ-loop
 array-read-if1 c = c .before .loop-test .taken
 
+unlisted-ok-requires : tie.Need-unlisted-ok-requires Inv-loop μ-loop
+unlisted-ok-requires c κs = tt
+
 failed-requires : tie.Need-failed-requires Inv-loop μ-loop
 failed-requires c κs = tt
 
 returns : tie.Need-returns Inv-loop μ-loop
 returns c =
-    let f = c .before .before in
+    let f = c .before .before .before in
     let t = f .before .before in
-    inv-place (t .before .loop .inv) (t .loop-test .taken) (c .before .if2 .taken) (not-true _ (f .if1 .taken)) (c .failed .ensures)
+    inv-stray (t .before .loop .inv) (t .loop-test .taken) (not-true _ (f .if1 .taken)) (c .before .before .unlisted-ok .ensures)
+    (c .before .if2 .taken) (c .failed .ensures)
 
 add-i : tie.Need-add-i Inv-loop μ-loop
 add-i c =
@@ -64,7 +69,8 @@ loop-again : tie.Need-loop-again Inv-loop μ-loop
 loop-again c =
     let l = in-loop c in
     let l2 = l .before .loop in
-    inv-skip (l2 .inv) (l .loop-test .taken) (c .if2 .left) (not-true _ (c .before .if1 .taken))
+    inv-skip (l2 .inv) (l .loop-test .taken) (not-true _ (c .before .before .if1 .taken)) (c .before .unlisted-ok .ensures)
+    (not-false _ (c .if2 .left))
 
 failed-requires-2 : tie.Need-failed-requires-2 Inv-loop μ-loop
 failed-requires-2 c κs = tt
@@ -82,7 +88,7 @@ returns-3 : tie.Need-returns-3 Inv-loop μ-loop
 returns-3 c =
     let f = c .before .before in
     let t = in-loop2 f in
-    inv-status (t .before .loop .inv) (t .loop-test .taken) (f .if3 .left) (c .before .if4 .taken) (c .failed3 .ensures)
+    inv-status (t .before .loop .inv) (t .loop-test .taken) (f .if3 .left) (not-false _ (f .before .if1 .left)) (c .before .if4 .taken) (c .failed3 .ensures)
 
 bounds-ok-requires : tie.Need-bounds-ok-requires Inv-loop μ-loop
 bounds-ok-requires c κs =
@@ -97,7 +103,7 @@ returns-4 c =
     let b = c .before .before in
     let f = b .before .before in
     let t = in-loop2 f in
-    inv-bounds (t .before .loop .inv) (t .loop-test .taken) (f .if3 .left) (b .bounds-ok .ensures) (c .before .if5 .taken)
+    inv-bounds (t .before .loop .inv) (t .loop-test .taken) (f .if3 .left) (not-false _ (f .before .if1 .left)) (b .bounds-ok .ensures) (c .before .if5 .taken)
     (c .failed4 .ensures)
 
 cast-g : tie.Need-cast-g Inv-loop μ-loop
@@ -109,7 +115,7 @@ module _ (c : tie.After-struct-known Inv-loop μ-loop) where
   turn = c .before .before .before .before .before .before .before
 
   abbrev group : ℕ
-  group = (getD (turn .before .before .args .t1) (turn .before .loop .i) noThread) .group
+  group = (getD (turn .before .before .args .t1) (turn .before .loop .i) noThread) .«group_or_weight»
 
   low : group < 16
   low =
@@ -131,7 +137,7 @@ returns-5 c =
     let k = c .before .before in
     let f = k .before .before .before .before in
     let t = turn k in
-    inv-home (t .before .loop .inv) (t .loop-test .taken) (f .if3 .left) (c .before .if6 .taken) (c .failed5 .ensures)
+    inv-home (t .before .loop .inv) (t .loop-test .taken) (f .if3 .left) (not-false _ (f .before .if1 .left)) (c .before .if6 .taken) (c .failed5 .ensures)
 
 mul-used : tie.Need-mul-used Inv-loop μ-loop
 mul-used c = scaled-fits (group (c .before)) 16 4 (low (c .before)) (lit< tt)
@@ -189,7 +195,7 @@ running c = strict (c .before .before .before .pre .1) (c .if7 .left)
 mul-x : tie.Need-mul-x Inv-loop μ-loop
 mul-x c =
     let s = c .before .before .before .args in
-    scaled-fits (s .running) 64 40 (running c) (lit< tt)
+    scaled-fits (s .running) 64 48 (running c) (lit< tt)
 
 array-copy-out-x : tie.Need-array-copy-out-x Inv-loop μ-loop
 array-copy-out-x c = running c
@@ -214,6 +220,7 @@ threads-pass-spec =
     mul-t
     array-copy-out-t
     array-read-if1
+    unlisted-ok-requires
     failed-requires
     returns
     add-i

@@ -1,0 +1,191 @@
+// Best-effort threads: the call that admits one, the choice among them, and one after a report. An entry's reservation tells the two kinds
+// apart: of a best-effort thread it is 0. Tags and the order among them are crate `fair`'s.
+ghost use mathlib.Core.Path.{_≡_};
+ghost use mathlib.Core.Bool.{true, not, cond, _&&_};
+ghost use mathlib.Core.List.{[], _∷_};
+ghost use Prim.Native.Nat.{_+_, _≤_};
+ghost use lib.Dec.{ltb, eqb};
+ghost use Rattle.base.specs.Checks.{within, _⇒_, firstOf};
+ghost use Rattle.fair.specs.Tags.{firstOr, counted, timeAfter};
+ghost use Rattle.scheduler.specs.State.{hasReservation, isReserved, isEffort};
+ghost use Rattle.scheduler.specs.Sound.{sound};
+ghost use Rattle.scheduler.specs.Refusals.{admitEffort};
+ghost use Rattle.scheduler.specs.Effects.{effortThread, spentThread};
+ghost use Rattle.scheduler.specs.Answers.{answeredTo};
+ghost use Rattle.scheduler.specs.Inner.{Accounted, Spendable, bestOf, effortsOf};
+use crate::Answered;
+use crate::Scheduler;
+use crate::Thread;
+use crate::refusal;
+use crate::threads;
+
+const THREADS: usize = Scheduler::THREADS as usize;
+
+// The runnable best-effort thread that goes first, or 64, and how many best-effort threads there are.
+struct Efforts {
+    best: u32,
+    count: u32,
+}
+
+// The thread that a dispatch takes, or 64, and the number of threads that it answers.
+pub(crate) struct Choice {
+    pub(crate) number: u32,
+    pub(crate) before: u32,
+}
+
+// The number that admission of a best-effort thread is refused with, or 0. A number above 63 is refused whatever the status.
+fn effort_code(ok: bool, number: u64, status: u8, weight: u64) -> u32
+    ensures { λ r. ⌜ r ≡ firstOf ((not ok ⇒ 16) ∷ (ltb 63 number ⇒ 7) ∷ (ltb 0 status ⇒ 8) ∷ (not (within 1 16 weight) ⇒ 4) ∷ []) ⌝ }
+{
+    if !ok {
+        return refusal::UNSOUND;
+    }
+    if Scheduler::THREADS as u64 <= number {
+        return refusal::NO_THREAD;
+    }
+    if 0 < status {
+        return refusal::ALREADY_ADMITTED;
+    }
+    if fair::outside(weight) {
+        return refusal::AMOUNT;
+    }
+    0
+}
+
+impl Thread {
+    // Whether its entry holds a reservation.
+    pub(crate) fn has_reservation(self) -> bool
+        ensures { λ r. ⌜ r ≡ hasReservation self ⌝ }
+    {
+        0 < self.reservation
+    }
+
+    pub(crate) fn is_reserved(self) -> bool
+        ensures { λ r. ⌜ r ≡ isReserved self ⌝ }
+    {
+        (0 < self.status) & (0 < self.reservation)
+    }
+
+    fn is_effort(self) -> bool
+        ensures { λ r. ⌜ r ≡ isEffort self ⌝ }
+    {
+        (0 < self.status) & !(0 < self.reservation)
+    }
+
+    // The thread after a call to admit it as a best-effort one.
+    fn effort_if(self, accepted: bool, meter: u64, time: u64, weight: u64) -> Self
+        requires { ⌜ (accepted ≡ true → weight ≤ 16) ⌝ }
+        ensures { λ r. ⌜ ((s : Scheduler) → s .meter ≡ meter → s .time ≡ time → r ≡ cond accepted (effortThread s weight) self) ⌝ }
+    {
+        if accepted {
+            return Self {
+                admission: meter,
+                anchor: meter,
+                ticks: 0,
+                since: 0,
+                allotment: 0,
+                reservation: 0,
+                group_or_weight: weight as u8,
+                status: Self::RUNNABLE,
+                tag: fair::start_tag(time, 0),
+            };
+        }
+        self
+    }
+
+    // A best-effort thread after a report that is accepted, leaves the meter at `meter` and does not end it.
+    pub(crate) fn spent(self, meter: u64, reason: u64, used: u64) -> Self
+        requires { ⌜ (Accounted used self) × (Spendable self) ⌝ }
+        ensures { λ r. ⌜ ((s : Scheduler) → s .meter + used ≡ meter → r ≡ spentThread s reason used self) ⌝ }
+    {
+        let tag = fair::finish_tag(self.tag, self.group_or_weight, used as u32);
+        let mut after = self.accounted(meter, reason, used);
+        after.tag = tag;
+        after
+    }
+
+    // The virtual time after a dispatch that takes the thread, or does not.
+    pub(crate) fn time_if(self, taken: bool, time: u64) -> u64
+        ensures { λ r. ⌜ r ≡ cond taken (timeAfter (isEffort self) (self .tag) time) time ⌝ }
+    {
+        if taken {
+            return fair::time_after(self.is_effort(), self.tag, time);
+        }
+        time
+    }
+}
+
+// The choice among the best-effort threads.
+fn efforts_of(threads: [Thread; 64]) -> Efforts
+    ensures { λ r. ⌜ (r .best ≡ bestOf threads) × (r .count ≡ effortsOf threads) × (r .count ≤ 64) ⌝ }
+{
+    let mut best = Scheduler::THREADS;
+    let mut least: u64 = 0;
+    let mut count: u32 = 0;
+    let mut i: usize = 0;
+    while i < THREADS {
+        let t = threads[i];
+        if !t.is_effort() {
+            i += 1;
+            continue;
+        }
+        count += 1;
+        if !fair::comes_first(t.status == Thread::RUNNABLE, t.tag, best, least) {
+            i += 1;
+            continue;
+        }
+        best = i as u32;
+        least = t.tag;
+        i += 1;
+    }
+    Efforts {
+        best: best,
+        count: count,
+    }
+}
+
+// What a dispatch takes that has passed over this many threads of the list up to the first runnable one, or 64. The best-effort threads are
+// looked at only where it is 64.
+pub(crate) fn choice_of(threads: [Thread; 64], listed: u32, passed: u32) -> Choice
+    requires { ⌜ passed ≤ 64 ⌝ }
+    ensures { λ r. ⌜ (r .number ≡ firstOr listed (bestOf threads)) × (r .before ≡ counted (firstOr listed (bestOf threads)) passed (effortsOf threads)) ⌝ }
+{
+    if listed != Scheduler::THREADS {
+        return Choice {
+            number: listed,
+            before: passed,
+        };
+    }
+    let efforts = efforts_of(threads);
+    let number = fair::first_or(listed, efforts.best);
+    let before = fair::counted(number, passed, efforts.count) as u32;
+    Choice {
+        number: number,
+        before: before,
+    }
+}
+
+impl Scheduler {
+    // Admits a best-effort thread with a weight: runnable, in no group and outside the list.
+    pub fn admit_effort(self, number: u64, weight: u64) -> Answered
+        ensures { λ r. ⌜ r ≡ answeredTo (admitEffort number weight) self ⌝ }
+    {
+        let ok = self.sound();
+        self.admit_effort_given(ok, number, weight)
+    }
+
+    pub(crate) fn admit_effort_given(mut self, ok: bool, number: u64, weight: u64) -> Answered
+        requires { ⌜ ok ≡ sound self ⌝ }
+        ensures { λ r. ⌜ r ≡ answeredTo (admitEffort number weight) self ⌝ }
+    {
+        let at = (number % Self::THREADS as u64) as usize;
+        let old = self.threads[at];
+        let code = effort_code(ok, number, old.status, weight);
+        let thread = old.effort_if(code == 0, self.meter, self.time, weight);
+        self.threads[at] = thread;
+        Answered {
+            answer: threads::answered(code),
+            state: self,
+        }
+    }
+}
