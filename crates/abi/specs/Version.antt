@@ -2,4 +2,4 @@
 use Prim.Native.Nat.{ℕ, _+_, _*_}
 
 abbrev pub version : ℕ
-version = 10000 * 2 + 100 * 4 + 0
+version = 10000 * 3 + 100 * 0 + 0

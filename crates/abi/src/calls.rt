@@ -1,7 +1,7 @@
 // The calls on the scheduler at the boundary. The state goes by value; an answer is its numbers with the state after the call.
 ghost use mathlib.Core.Path.{_≡_};
 ghost use Rattle.scheduler.specs.Sound.{sound};
-ghost use Rattle.scheduler.specs.Refusals.{openGroup, closeGroup, admit, remove, wake, dispatch, report, change};
+ghost use Rattle.scheduler.specs.Refusals.{openGroup, closeGroup, admit, remove, wake, dispatch, report, change, admitEffort};
 ghost use Rattle.scheduler.specs.Rule.{step, startReply};
 ghost use Rattle.scheduler.specs.Answers.{replyOf};
 ghost use Rattle.scheduler.specs.Tree.{totalOf};
@@ -104,9 +104,23 @@ pub extern "C" fn mtr_by_value_admit(
     handed(state.admit(number, group, reservation))
 }
 
-// Removes a thread that does not run: takes it off the list and frees its number and reservation. Refused: 16, the state is not sound; 7,
-// the number is above 63 or not admitted; 9, the thread is running. The state is then unchanged. Accepted, every other thread and the
-// others' mutual order are unchanged, and so are the groups.
+// Admits a best-effort thread with a weight: runnable, in no group and outside the list. It runs while no reserved thread is runnable, and
+// shares that time with the other best-effort threads by weight. Refused: 16, the state is not sound; 7, the number is above 63; 8, the
+// thread is already admitted; 4, the weight is outside 1 to 16. The state is then unchanged. Accepted, only the thread's entry changes.
+#[no_mangle]
+pub extern "C" fn mtr_by_value_admit_best_effort(
+    state: Scheduler,
+    number: u64,
+    weight: u64,
+) -> Reply
+    ensures { λ r. ⌜ r ≡ replyOut (step (admitEffort number weight) state) ⌝ }
+{
+    handed(state.admit_effort(number, weight))
+}
+
+// Removes a thread that does not run: frees its number and reservation, and takes a reserved thread off the list. Refused: 16, the state is
+// not sound; 7, the number is above 63 or not admitted; 9, the thread is running. The state is then unchanged. Accepted, every other thread
+// and the others' mutual order are unchanged, and so are the groups.
 #[no_mangle]
 pub extern "C" fn mtr_by_value_remove(state: Scheduler, number: u64) -> Reply
     ensures { λ r. ⌜ r ≡ replyOut (step (remove number) state) ⌝ }
@@ -114,8 +128,9 @@ pub extern "C" fn mtr_by_value_remove(state: Scheduler, number: u64) -> Reply
     handed(state.remove(number))
 }
 
-// Makes a blocked thread runnable. Refused: 16, the state is not sound; 7, the number is above 63 or not admitted; 10, the thread is not
-// blocked. The state is then unchanged. Accepted, the list, the thread's allotment and every other thread are unchanged.
+// Makes a blocked thread runnable. A best-effort thread has saved up nothing while it was blocked. Refused: 16, the state is not sound; 7,
+// the number is above 63 or not admitted; 10, the thread is not blocked. The state is then unchanged. Accepted, the list, the thread's
+// allotment and every other thread are unchanged.
 #[no_mangle]
 pub extern "C" fn mtr_by_value_wake(state: Scheduler, number: u64) -> Reply
     ensures { λ r. ⌜ r ≡ replyOut (step (wake number) state) ⌝ }
@@ -123,10 +138,11 @@ pub extern "C" fn mtr_by_value_wake(state: Scheduler, number: u64) -> Reply
     handed(state.wake(number))
 }
 
-// Takes the first runnable thread of the list to run for its slice, the smaller of its allotment and P. Answers the thread, the slice and
-// how many threads, all blocked, stood before it; or idle, thread 64 with slice 0 and the length of the list, if no thread is runnable.
-// Refused: 16, the state is not sound; 12, a thread is running; 15, the meter is at least 10000000000000. The state is then unchanged.
-// Accepted, only the number of the running thread changes, and nothing if idle.
+// Takes the first runnable thread of the list to run for its slice, the smaller of its allotment and P; where none of the list is runnable,
+// the runnable best-effort thread with the smallest tag, of equal ones the one with the lowest number, for P. Answers the thread, the slice
+// and how many reserved threads, all blocked, stood before it; or idle, thread 64 with slice 0 and the number of all threads, if no thread
+// is runnable. Refused: 16, the state is not sound; 12, a thread is running; 15, the meter is at least 10000000000000. The state is then
+// unchanged. Accepted, only the number of the running thread and, of a best-effort one, the virtual time change, and nothing if idle.
 #[no_mangle]
 pub extern "C" fn mtr_by_value_dispatch(state: Scheduler) -> Reply
     ensures { λ r. ⌜ r ≡ replyOut (step dispatch state) ⌝ }
@@ -137,9 +153,10 @@ pub extern "C" fn mtr_by_value_dispatch(state: Scheduler) -> Reply
 // Charges the running thread the ticks used and ends its run. Up to O ticks may be used beyond the slice: an overrun, as of a timer that
 // fires late. If 0 or less is left of the allotment, the thread's quantum is added to it once, so that a debt is kept, and the thread moves
 // to the rear. Reasons: 0 tick, the thread stays runnable; 1 block; 2 yield, which moves to the rear and, where something is left, fills
-// the allotment; 3 exit, which frees the thread's number and reservation. Refused: 16, the state is not sound; 11, nothing is running; 14,
-// the reason is above 3; 13, more is used than the slice and O. The state is then unchanged. Accepted, every other thread and the others'
-// mutual order are unchanged, and so are the groups.
+// the allotment; 3 exit, which frees the thread's number and reservation. A best-effort thread has no allotment and no place: its tag grows
+// by 720720 / weight for each tick. Refused: 16, the state is not sound; 11, nothing is running; 14, the reason is above 3; 13, more is
+// used than the slice and O. The state is then unchanged. Accepted, every other thread and the others' mutual order are unchanged, and so
+// are the groups.
 #[no_mangle]
 pub extern "C" fn mtr_by_value_report(state: Scheduler, reason: u64, used: u64) -> Reply
     ensures { λ r. ⌜ r ≡ replyOut (step (report reason used) state) ⌝ }
@@ -149,9 +166,9 @@ pub extern "C" fn mtr_by_value_report(state: Scheduler, reason: u64, used: u64) 
 
 // Changes the reservation of a thread that does not run, in thousandths. The thread keeps its place in the list, and stays blocked if it
 // is; its allotment is cut to the new quantum if it is larger and never raised; its lag is counted afresh from here, and its share goes on.
-// Refused: 16, the state is not sound; 7, the number is above 63 or not admitted; 9, the thread is running; 4, the reservation is outside 1
-// to 1000; 5, the reservation exceeds what the thread's group has free, its old reservation counted as free. The state is then unchanged.
-// Accepted, only the thread's entry changes.
+// Refused: 16, the state is not sound; 7, the number is above 63, or its thread is not admitted or a best-effort one; 9, the thread is
+// running; 4, the reservation is outside 1 to 1000; 5, the reservation exceeds what the thread's group has free, its old reservation counted
+// as free. The state is then unchanged. Accepted, only the thread's entry changes.
 #[no_mangle]
 pub extern "C" fn mtr_by_value_change(state: Scheduler, number: u64, reservation: u64) -> Reply
     ensures { λ r. ⌜ r ≡ replyOut (step (change number reservation) state) ⌝ }

@@ -23,7 +23,8 @@ pub struct ShareLine {
     pub share: u32,
 }
 
-// A thread's lag: its reservation times the meter's growth since its anchor, less 1000 times its own ticks since; 0 while it is blocked.
+// A thread's lag: its reservation times the meter's growth since its anchor, less 1000 times its own ticks since; 0 while it is blocked,
+// and 0 of a best-effort thread.
 // The anchor is its admission, its last wake, its last yield or the last change of its reservation, whichever came last.
 // Refused: 16, the state is not sound; 7, the number is above 63 or not admitted. The state is unchanged.
 #[no_mangle]
@@ -58,9 +59,9 @@ pub extern "C" fn mtr_by_value_share(state: Scheduler, number: u64) -> ShareLine
     }
 }
 
-// Fills a lent table with the record of every admitted thread, largest lag first, equal lags by lower number. Refused: 16, the state is not
-// sound; 17, the table is shorter than the number of threads. The table is then unchanged. Accepted, the records past the last are
-// unchanged. The state is unchanged.
+// Fills a lent table with the record of every admitted thread, largest lag first, equal lags by lower number. A best-effort thread's lag and
+// allotment are 0. Refused: 16, the state is not sound; 17, the table is shorter than the number of threads. The table is then unchanged.
+// Accepted, the records past the last are unchanged. The state is unchanged.
 #[no_mangle]
 pub extern "C" fn mtr_by_value_roster(state: Scheduler, table: &mut [Entry]) -> u32
     ensures { λ r. ⌜ (r ≡ rosterRefusal state (length (now (table .entry)))) × (now (table .exit) ≡ tableOf state (now (table .entry))) ⌝ }

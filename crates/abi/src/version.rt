@@ -2,9 +2,9 @@
 ghost use mathlib.Core.Path.{_≡_};
 ghost use Rattle.abi.specs.Version.{version};
 
-pub const MAJOR: u32 = 2;
+pub const MAJOR: u32 = 3;
 
-pub const MINOR: u32 = 4;
+pub const MINOR: u32 = 0;
 
 pub const PATCH: u32 = 0;
 

@@ -7,13 +7,15 @@ use native.Mathlib.Omega.{arith}
 use native.Mathlib.Numerals.{add-one}
 use borrow.Author.Tests.{lt-ltb, le-ltb, eq-eqb, ne-eqb}
 use lib.IntN.{ℤ, pos}
+use mir.Syntax.{w32}
+use mir.Val.{SFits}
 use lib.ListN.{length, getD, take, drop, set, replicate, length-set, length-replicate, length-map}
 use lib.Seq.{length-take-le, take-suc-set, take-suc, getD-take}
 use Rattle.base.specs.Checks.{firstOf}
 use Rattle.scheduler.specs.declared.Scheduler.{Scheduler}
 use Rattle.scheduler.specs.State.{threadAt}
 use Rattle.scheduler.specs.Sound.{sound}
-use Rattle.scheduler.specs.Accounts.{lagOf, shareOf}
+use Rattle.scheduler.specs.Accounts.{lagOf, shareOf, allotmentOf}
 use Rattle.accounts.specs.declared.Entry.{Entry}
 use Rattle.accounts.specs.declared.sort.Key.{Key}
 use Rattle.accounts.specs.declared.sort.Keys.{Keys}
@@ -21,7 +23,7 @@ use Rattle.accounts.specs.declared.roster.Plan.{Plan}
 use Rattle.accounts.specs.Order.{noKey, keysBelow, ordered}
 use Rattle.accounts.specs.Roster.{threadState, entryOf, rosterOf, rosterRefusal, tableOf}
 use Rattle.accounts.specs.Inner.{Bounded, Sorted, Filled, Planned}
-use Rattle.accounts.proofs.Bounds.{bounded}
+use Rattle.accounts.proofs.Bounds.{bounded, allotment-fits}
 use Rattle.accounts.proofs.Order.{each-ordered, each-at}
 use Rattle.accounts.proofs.Keys.{Genuine, keys-genuine}
 
@@ -55,6 +57,9 @@ module _ (s : Scheduler) (k : Keys) (h : Sorted s k) where
 
   pub key-bounded : (i : ℕ) → i < k .count → Bounded (s .meter) (threadAt s ((getD (k .keys) i noKey) .number))
   key-bounded i l = let g = key-at i l in bounded s ((getD (k .keys) i noKey) .number) (h .good) (g .low) (g .admitted)
+
+  pub key-allotment : (i : ℕ) → i < k .count → SFits w32 (allotmentOf (threadAt s ((getD (k .keys) i noKey) .number)))
+  key-allotment i l = allotment-fits s ((getD (k .keys) i noKey) .number) (h .good) (key-at i l .admitted)
 
   pub none-filled : Filling s k (replicate 64 noEntry) 0
   none-filled = record { high = omega arith; wide = length-replicate 64 noEntry; made = refl }
@@ -92,7 +97,7 @@ module _ (s : Scheduler) (k : Keys) (h : Sorted s k) where
 -- the record that the code makes
 pub entry-is : (s : Scheduler) (n state share : ℕ) (allotment lag : ℤ) → state ≡ threadState (s .running) n ((threadAt s n) .status)
     → share ≡ shareOf (s .meter) (threadAt s n)
-    → allotment ≡ (threadAt s n) .allotment
+    → allotment ≡ allotmentOf (threadAt s n)
     → lag ≡ lagOf (s .meter) (threadAt s n)
     → _≡_ {A = Entry} (record { number = n; state = state; allotment = allotment; share = share; lag = lag }) (entryOf s n)
 unfolding entryOf

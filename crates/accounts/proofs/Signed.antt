@@ -1,11 +1,11 @@
 -- The figures of a record within its bounds. Each product stays far below 2^63, so a cast keeps its value; and the difference of two such
 -- numbers, made at 64 bits, is the exact one on both sides of zero.
 use mathlib.Core.Path.{_≡_, refl, sym, _∙_, ap, subst}
-use mathlib.Core.Bool.{Bool, cond}
+use mathlib.Core.Bool.{Bool, true, false, not, cond, _||_}
 use Prim.Native.Nat.{ℕ, zero, suc, _+_, _-_, _*_, _^_, _<_, _≤_}
 use native.Mathlib.Nat.{mul-le-mul-right}
 use native.Mathlib.Omega.{arith}
-use borrow.Author.Tests.{ltb-true, eq-eqb, ne-eqb}
+use borrow.Author.Tests.{ltb-true, lt-ltb, le-ltb, eq-eqb, ne-eqb}
 use lib.Dec.{ltb, eqb}
 use lib.IntN.{ℤ, pos, negsuc, subℕ, natAbs, _-ℤ_}
 use lib.Signed.{mag}
@@ -16,8 +16,8 @@ use Rattle.base.proofs.Bools.{by}
 use Rattle.base.proofs.Signed.{pos-sub, mag-sub, small}
 use Rattle.rounding.proofs.Theorems.{rounded-most}
 use Rattle.scheduler.specs.declared.Thread.{Thread}
-use Rattle.scheduler.specs.State.{meterMost}
-use Rattle.scheduler.specs.Accounts.{lagOf, shareOf}
+use Rattle.scheduler.specs.State.{isBlocked, hasReservation, meterMost}
+use Rattle.scheduler.specs.Accounts.{lagOf, shareOf, allotmentOf}
 use Rattle.accounts.specs.Inner.{Bounded}
 
 -- At 64 bits.
@@ -46,10 +46,28 @@ pub lag-blocked : (meter : ℕ) (t : Thread) → t .status ≡ 2 → lagOf meter
 unfolding lagOf
 lag-blocked meter t e = rw (eq-eqb (t .status) 2 e)
 
-pub lag-runnable : (meter : ℕ) (t : Thread) → (t .status ≡ 2 → ⊥)
+pub lag-none : (meter : ℕ) (t : Thread) → t .reservation ≡ 0 → lagOf meter t ≡ pos 0
+unfolding lagOf
+lag-none meter t e =
+    rw (le-ltb 0 (t .reservation) (omega arith))
+    (either (isBlocked t) (subℕ (t .reservation * (meter - t .anchor)) (1000 * t .since)))
+  where
+    either : (b : Bool) (z : ℤ) → cond (b || true) (pos 0) z ≡ pos 0
+    either true z = refl
+    either false z = refl
+
+pub lag-runnable : (meter : ℕ) (t : Thread) → (t .status ≡ 2 → ⊥) → (t .reservation ≡ 0 → ⊥)
     → lagOf meter t ≡ subℕ (t .reservation * (meter - t .anchor)) (1000 * t .since)
 unfolding lagOf
-lag-runnable meter t e = rw (ne-eqb (t .status) 2 e)
+lag-runnable meter t e some = rw (ne-eqb (t .status) 2 e, lt-ltb 0 (t .reservation) (omega (arith, some)))
+
+pub allotment-none : (t : Thread) → t .reservation ≡ 0 → allotmentOf t ≡ pos 0
+unfolding allotmentOf
+allotment-none t e = rw (le-ltb 0 (t .reservation) (omega arith))
+
+pub allotment-own : (t : Thread) → (t .reservation ≡ 0 → ⊥) → allotmentOf t ≡ t .allotment
+unfolding allotmentOf
+allotment-own t some = rw (lt-ltb 0 (t .reservation) (omega (arith, some)))
 
 module _ (meter : ℕ) (t : Thread) (h : Bounded meter t) where
   due-most : t .reservation * (meter - t .anchor) ≤ 1000 * meterMost
@@ -74,7 +92,7 @@ module _ (meter : ℕ) (t : Thread) (h : Bounded meter t) where
   unfolding lagOf
   lag-most =
       by (λ b. natAbs (cond b (pos 0) (subℕ (t .reservation * (meter - t .anchor)) (1000 * t .since))) ≤ 1000 * meterMost)
-      (eqb (t .status) 2)
+      (isBlocked t || not (hasReservation t))
       (λ _. omega arith)
       (λ _. abs-sub (t .reservation * (meter - t .anchor)) (1000 * t .since) (1000 * meterMost) due-most had-most)
 

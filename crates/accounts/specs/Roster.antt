@@ -8,7 +8,7 @@ use Rattle.base.specs.Checks.{_⇒_, firstOf}
 use Rattle.scheduler.specs.declared.Scheduler.{Scheduler}
 use Rattle.scheduler.specs.State.{threadAt}
 use Rattle.scheduler.specs.Sound.{sound}
-use Rattle.scheduler.specs.Accounts.{lagOf, shareOf}
+use Rattle.scheduler.specs.Accounts.{lagOf, shareOf, allotmentOf}
 use Rattle.accounts.specs.declared.Entry.{Entry}
 use Rattle.accounts.specs.Order.{ordered, keysBelow}
 
@@ -21,7 +21,7 @@ unfoldable pub entryOf : Scheduler → ℕ → Entry
 entryOf s n = record {
   number = n;
   state = threadState (s .running) n ((threadAt s n) .status);
-  allotment = (threadAt s n) .allotment;
+  allotment = allotmentOf (threadAt s n);
   share = shareOf (s .meter) (threadAt s n);
   lag = lagOf (s .meter) (threadAt s n);
 }

@@ -6,7 +6,7 @@ use scheduler::Scheduler;
 use scheduler::Thread;
 use scheduler::refusal;
 ghost use mathlib.Core.Path.{_≡_};
-ghost use Rattle.scheduler.specs.Accounts.{lagOf, shareOf};
+ghost use Rattle.scheduler.specs.Accounts.{lagOf, shareOf, allotmentOf};
 ghost use Rattle.accounts.specs.Figures.{lagAt, shareAt};
 ghost use Rattle.accounts.specs.Inner.{Bounded, accountOf};
 
@@ -16,6 +16,9 @@ pub(crate) fn lag_of(t: Thread, meter: u64) -> i64
     ensures { λ r. ⌜ r ≡ lagOf meter t ⌝ }
 {
     if t.status == 2 {
+        return 0;
+    }
+    if t.reservation == 0 {
         return 0;
     }
     let due = t.reservation as u64 * (meter - t.anchor);
@@ -33,6 +36,16 @@ pub(crate) fn share_of(t: Thread, meter: u64) -> u32
     let parts = 1000 * ticks;
     let share = nearest(parts, growth);
     share as u32
+}
+
+// The allotment that the roster shows.
+pub(crate) fn allotment_of(t: Thread) -> i32
+    ensures { λ r. ⌜ r ≡ allotmentOf t ⌝ }
+{
+    if t.reservation == 0 {
+        return 0;
+    }
+    t.allotment
 }
 
 // An admitted thread of a sound state, or the refusal.

@@ -1,5 +1,6 @@
 // The roster, written to a lent table. One thin function stores the records; what they are is decided by value.
 use crate::Entry;
+use crate::figures::allotment_of;
 use crate::figures::share_of;
 use crate::sort::Keys;
 use crate::sort::order;
@@ -58,7 +59,7 @@ fn filled(s: Scheduler, k: Keys) -> Plan
         rows[i] = Entry {
             number: n,
             state: state_of(t.status, n, running),
-            allotment: t.allotment,
+            allotment: allotment_of(t),
             share: share_of(t, meter),
             lag: x.lag,
         };

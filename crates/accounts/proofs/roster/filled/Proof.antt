@@ -1,12 +1,15 @@
 -- `accounts::roster::filled` meets its contract: the loop has made the records of the first i keys.
-use mathlib.Core.Path.{refl}
+use mathlib.Core.Path.{refl, ap, _∙_}
 use Prim.Native.Nat.{_-_}
 use native.Mathlib.Omega.{arith}
+use lib.IntN.{ℤ}
+use mir.Syntax.{w32}
+use mir.Val.{toZ, ofZ}
 use mir.Facts.{toZ-ofZ}
-use borrow.Author.Needs.{needs, sfits-of}
+use borrow.Author.Needs.{needs}
 use Rattle.accounts.proofs.Signed.{lag-bits}
 use Rattle.accounts.proofs.Keys.{key-lag}
-use Rattle.accounts.proofs.Rows.{key-at, key-bounded, Filling, none-filled, fills, all-filled, entry-is}
+use Rattle.accounts.proofs.Rows.{key-at, key-bounded, key-allotment, Filling, none-filled, fills, all-filled, entry-is}
 use Rattle.accounts.proofs.roster.filled.Statement.{statement}
 use Rattle.accounts.proofs.roster.filled.Tie as tie
 
@@ -60,9 +63,12 @@ element-copy-out-t c =
 state-of-requires : tie.Need-state-of-requires Inv-loop μ-loop
 state-of-requires c κs = search needs
 
+allotment-of-requires : tie.Need-allotment-of-requires Inv-loop μ-loop
+allotment-of-requires c κs = search needs
+
 share-of-requires : tie.Need-share-of-requires Inv-loop μ-loop
 share-of-requires c κs =
-    let l = in-loop c in
+    let l = in-loop (c .before) in
     let s = l .before .before in
     key-bounded _ _ (s .pre) _ (l .loop-test .taken)
 
@@ -84,8 +90,9 @@ loop-again c =
     let l2 = l .before in
     let s = l2 .before in
     fills _ _ (s .pre) _ _ (l2 .loop .inv) (l .loop-test .taken) _
-    (entry-is _ _ _ _ _ _ (c .before .before .before .state-of .ensures) (c .before .before .share-of .ensures)
-    (toZ-ofZ (sfits-of (c .before .struct-told .given .1 .1 .1 .1 .0 .1)))
+    (entry-is _ _ _ _ _ _ (c .before .before .before .state-of .ensures) (c .before .share-of .ensures)
+    (ap (λ (z : ℤ). toZ w32 (ofZ w32 z)) (c .before .before .allotment-of .ensures)
+    ∙ toZ-ofZ (key-allotment _ _ (s .pre) _ (l .loop-test .taken)))
     (lag-bits _ _ (key-bounded _ _ (s .pre) _ (l .loop-test .taken)) _ (key-lag _ _ _ (key-at _ _ (s .pre) _ (l .loop-test .taken)))))
 
 returns : tie.Need-returns Inv-loop μ-loop
@@ -104,6 +111,7 @@ filled-spec =
     mul-t
     element-copy-out-t
     state-of-requires
+    allotment-of-requires
     share-of-requires
     mul-rows
     array-set-from-rows
