@@ -1,10 +1,10 @@
 -- RULE 2.12 to 2.15 as theorems about `step` and `effect`: when a best-effort thread is dispatched and which, what a report, an exit, a
 -- removal, a wake and an admission do to it, and when the virtual time moves. It stands outside the list, so none of them touches the list.
 -- In a sound state the virtual time and the tags fit into 63 bits, since all of them are at most the tag unit times the meter.
-use Prim.Native.Nat.{ℕ, _+_, _-_, _*_, max, _≤_, _<_}
+use Prim.Native.Nat.{ℕ, zero, suc, _+_, _-_, _*_, max, _≤_, _<_}
 use mathlib.Core.Path.{_≡_, refl, sym, ap, subst, _∙_}
 use mathlib.Core.List.{List, [], _∷_}
-use mathlib.Core.Bool.{Bool, true, false, cond, _||_}
+use mathlib.Core.Bool.{Bool, true, false, not, cond, _&&_, _||_}
 use native.Mathlib.Omega.{arith}
 use lib.ListN.{length}
 use lib.Dec.{T, ltb, eqb}
@@ -18,8 +18,8 @@ use Rattle.base.proofs.Sums.{only, sum-same, sum-le, sum-none, sum-add, sum-pas
 use Rattle.fair.specs.Tags.{finishTag, startTag, timeAfter}
 use Rattle.scheduler.specs.declared.Thread.{Thread}
 use Rattle.scheduler.specs.declared.Scheduler.{Scheduler}
-use Rattle.scheduler.specs.State.{noThread, isBlocked, threadAt, runnableAt, reservedAt, effortAt, weightAt, tagAt, listed, weightOf}
-use Rattle.scheduler.specs.State.{sliceAt, withThread, withGroup, withList, withRun}
+use Rattle.scheduler.specs.State.{noThread, isAdmitted, isBlocked, hasReservation, weightOf, threadAt, admittedAt, runnableAt}
+use Rattle.scheduler.specs.State.{reservedAt, effortAt, weightAt, tagAt, listed, sliceAt, withThread, withGroup, withList, withRun}
 use Rattle.scheduler.specs.Sound.{sound}
 use Rattle.scheduler.specs.Refusals.{Call, openGroup, closeGroup, admit, remove, wake, dispatch, report, change, admitEffort, checks}
 use Rattle.scheduler.specs.Refusals.{refusal}
@@ -271,6 +271,38 @@ list-length s t =
         (λ e. cases (member n (listed s))
         (λ q. absurd (clash (reservedAt s n) (is (reservedAt s n) (member-reserved s k n (holds (member n (listed s)) q))) e))
         (λ q. rw (e, q)))
+
+-- an admitted thread is reserved or best-effort, so that the two kinds together are all threads, at most 64
+pub both-kinds : (s : Scheduler) → sumBelow (λ n. cond (admittedAt s n) 1 0) 64 ≡ reservedCount s + efforts s
+unfolding efforts admittedAt reservedAt effortAt
+both-kinds s =
+    sum-same (λ n. cond (admittedAt s n) 1 0) (λ n. cond (reservedAt s n) 1 0 + cond (effortAt s n) 1 0) 64
+    (λ n _. each (isAdmitted (threadAt s n)) (hasReservation (threadAt s n)))
+    ∙ sum-add (λ n. cond (reservedAt s n) 1 0) (λ n. cond (effortAt s n) 1 0) 64
+  where
+    each : (a b : Bool) → cond {A = ℕ} a 1 0 ≡ cond (a && b) 1 0 + cond (a && not b) 1 0
+    each true true = refl
+    each true false = refl
+    each false b = refl
+
+sum-ones : (k : ℕ) → sumBelow (λ n. 1) k ≡ k
+unfolding sumBelow
+sum-ones zero = refl
+sum-ones (suc k) = omega (arith, sum-ones k)
+
+pub most-threads : (s : Scheduler) → T (sound s) → length (listed s) + efforts s ≤ 64
+most-threads s t =
+    omega (
+      arith,
+      list-length s t,
+      both-kinds s,
+      sum-le (λ n. cond (admittedAt s n) 1 0) (λ n. 1) 64 (λ n _. one (admittedAt s n)),
+      sum-ones 64,
+    )
+  where
+    one : (b : Bool) → cond b 1 0 ≤ 1
+    one true = omega arith
+    one false = omega arith
 
 -- RULE 2.15: the count before a best-effort thread is that of the reserved ones, and idle counts both kinds.
 pub count-reserved : (s : Scheduler) → refusal dispatch s ≡ 0 → T (effortAt s ((step dispatch s) .thread))

@@ -286,7 +286,7 @@ idle-if s e none =
     (λ q. let c = chosen-runnable s k (eqb-false (chosen s) 64 q) in absurd (none (chosen s) (c .0) (c .1)))
 
 -- in a sound state an admitted thread that is not runnable is blocked
-blocked-of : (s : Scheduler) → Facts s → (n : ℕ) → T (admittedAt s n) → T (not (runnableAt s n)) → T (blockedAt s n)
+pub blocked-of : (s : Scheduler) → Facts s → (n : ℕ) → T (admittedAt s n) → T (not (runnableAt s n)) → T (blockedAt s n)
 unfolding admittedAt runnableAt blockedAt
 blocked-of s k n a r =
     holds (isBlocked (threadAt s n))

@@ -66,7 +66,7 @@ impl Thread {
         (0 < self.status) & (0 < self.reservation)
     }
 
-    fn is_effort(self) -> bool
+    pub fn is_effort(self) -> bool
         ensures { λ r. ⌜ r ≡ isEffort self ⌝ }
     {
         (0 < self.status) & !(0 < self.reservation)
