@@ -4,6 +4,7 @@ use mathlib.Core.Path.{_≡_, refl, sym, ap, subst, _∙_}
 use mathlib.Core.List.{List, [], _∷_, _++_, append-nil}
 use mathlib.Core.Bool.{Bool, true, false, cond, _&&_, _||_, or-false, and-false}
 use native.Mathlib.Omega.{arith}
+use native.Mathlib.Numerals.{add-one}
 use lib.ListN.{length, length-append}
 use lib.Dec.{T, ltb, eqb, lt→ltb, ltb→lt}
 use borrow.Author.Tests.{eqb-true, eqb-false, lt-ltb, le-ltb, ltb-true, ltb-false}
@@ -34,6 +35,14 @@ module _ (p : ℕ → Bool) where
   unfolding numbersBelow
   numbers-more P m a b =
       by (λ d. P (numbersBelow p m ++ cond d (m ∷ []) [])) (p m) a (λ e. subst P (sym (append-nil (numbersBelow p m))) (b e))
+
+  pub numbers-add : (m : ℕ) → p m ≡ true → numbersBelow p (m + 1) ≡ numbersBelow p m ++ m ∷ []
+  unfolding numbersBelow
+  numbers-add m e = rw (add-one m, e) refl
+
+  pub numbers-skip : (m : ℕ) → p m ≡ false → numbersBelow p (m + 1) ≡ numbersBelow p m
+  unfolding numbersBelow
+  numbers-skip m e = rw (add-one m, e) (append-nil (numbersBelow p m))
 
   with-last : (n m : ℕ) → p m ≡ true → ((ltb n m && p n) || eqb m n) ≡ (ltb n (suc m) && p n)
   with-last n m e =
