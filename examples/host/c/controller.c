@@ -1,160 +1,28 @@
 /*
  * A controller's main loop on a virtual clock, in C: readout, pumps, an archive, the lab's viewer and an exporter that waits
  * for a server whose replies come sooner or later, under a timer that fires up to 50 ticks late. For a while a method change
- * needs more readout. The lab's programs are admitted by their priorities, under a table of the lab's own (lab.h). Every call
- * of the scheduler is journalled into event blocks.
+ * needs more readout. The lab's programs are admitted by their priorities, under a table of the lab's own (lab.h). A report
+ * printer and a log packer reserve nothing: between two samples they share, by weight, the time that the others leave. Every
+ * call of the scheduler is journalled into event blocks (host.h).
  *
  *     cc -std=c11 -O2 -Iinclude examples/host/c/controller.c target/staticlib/libabi.a -o target/controller
  *     target/controller SEED JOURNAL [MILLISECONDS]
  *
  * Standard output has a line for each call, as mtrrun prints it for the call's record (number, answer, thread, slice,
- * threads before it), and at the end the roster, each thread's largest debt and readout's share under each reservation.
- * `target/bin/mtrrun < JOURNAL` prints the same lines but for these tables. examples/host/rust is the same host in Rust.
+ * threads before it), and at the end the roster, each thread's largest debt, readout's share under each reservation and the
+ * best-effort threads' shares beside their weights. `target/bin/mtrrun < JOURNAL` prints the same lines but for these tables.
+ * examples/host/rust is the same host in Rust.
  */
 #include <errno.h>
 #include <inttypes.h>
 #include <stdio.h>
 #include <stdlib.h>
 
+#include "host.h"
 #include "lab.h"
 #include "mtr.h"
 
-/* ---- the scheduler and its journal ---- */
-
-typedef struct host {
-    mtr_scheduler state;
-    FILE *journal;
-    /* The block that is being filled, its number, and the number of the next record. */
-    mtr_records list;
-    size_t count;
-    uint32_t block;
-    uint64_t record;
-} host;
-
-static _Noreturn void fail(const char *what)
-{
-    fprintf(stderr, "controller: %s\n", what);
-    exit(EXIT_FAILURE);
-}
-
-/* Ends the host where a call that it relies on is refused. */
-static void must(mtr_answer answer)
-{
-    if (answer != MTR_ACCEPTED)
-        fail(mtr_answer_text(answer));
-}
-
-/* Writes the records held as the next block. */
-static void flush_block(host *h)
-{
-    uint8_t area[MTR_BLOCK_BYTES];
-    must(mtr_write_block(area, sizeof area, h->block, &h->list, h->count));
-    if (fwrite(area, sizeof area, 1, h->journal) != 1)
-        fail("the journal cannot be written");
-    h->block += 1;
-    h->count = 0;
-}
-
-/* Makes the call that a record stands for. Only a dispatch fills in the run. */
-static mtr_answer make(mtr_scheduler *state, const mtr_record *r, mtr_run *run)
-{
-    switch (r->kind) {
-    case MTR_KIND_OPEN:
-        return mtr_open(state, r->subject, r->group, r->amount);
-    case MTR_KIND_CLOSE:
-        return mtr_close(state, r->subject);
-    case MTR_KIND_ADMIT:
-        return mtr_admit(state, r->subject, r->group, r->amount);
-    case MTR_KIND_REMOVE:
-        return mtr_remove(state, r->subject);
-    case MTR_KIND_WAKE:
-        return mtr_wake(state, r->subject);
-    case MTR_KIND_DISPATCH:
-        return mtr_dispatch(state, run);
-    case MTR_KIND_REPORT:
-        return mtr_report(state, r->reason, r->ticks);
-    case MTR_KIND_CHANGE:
-        return mtr_change(state, r->subject, r->amount);
-    default:
-        return mtr_start(state, r->amount, r->ticks, r->overrun);
-    }
-}
-
-/* Makes a call, journals it and prints its answer. */
-static mtr_answer call(host *h, mtr_record r, mtr_run *run)
-{
-    *run = (mtr_run){ 0, 0, 0 };
-    const mtr_answer answer = make(&h->state, &r, run);
-    h->list.records[h->count++] = r;
-    if (h->count == MTR_RECORDS)
-        flush_block(h);
-    printf("%" PRIu64 " %u %" PRIu32 " %" PRIu32 " %" PRIu32 "\n", h->record, (unsigned)answer, run->thread, run->slice,
-        run->before);
-    h->record += 1;
-    return answer;
-}
-
-/* A call that has nothing to tell but its answer. */
-static mtr_answer tell(host *h, mtr_record r)
-{
-    mtr_run none;
-    return call(h, r, &none);
-}
-
-static mtr_answer start(host *h, uint16_t thousandth, uint32_t interval, uint16_t overrun)
-{
-    return tell(h, (mtr_record){ .kind = MTR_KIND_START, .amount = thousandth, .overrun = overrun, .ticks = interval });
-}
-
-static mtr_answer open_group(host *h, uint8_t group, uint8_t parent, uint16_t ceiling)
-{
-    return tell(h, (mtr_record){ .kind = MTR_KIND_OPEN, .subject = group, .group = parent, .amount = ceiling });
-}
-
-static mtr_answer close_group(host *h, uint8_t group)
-{
-    return tell(h, (mtr_record){ .kind = MTR_KIND_CLOSE, .subject = group });
-}
-
-static mtr_answer admit(host *h, uint8_t thread, uint8_t group, uint16_t reservation)
-{
-    return tell(h, (mtr_record){ .kind = MTR_KIND_ADMIT, .subject = thread, .group = group, .amount = reservation });
-}
-
-static mtr_answer remove_thread(host *h, uint8_t thread)
-{
-    return tell(h, (mtr_record){ .kind = MTR_KIND_REMOVE, .subject = thread });
-}
-
-static mtr_answer wake(host *h, uint8_t thread)
-{
-    return tell(h, (mtr_record){ .kind = MTR_KIND_WAKE, .subject = thread });
-}
-
-static mtr_answer dispatch(host *h, mtr_run *run)
-{
-    return call(h, (mtr_record){ .kind = MTR_KIND_DISPATCH }, run);
-}
-
-static mtr_answer report(host *h, uint8_t reason, uint32_t used)
-{
-    return tell(h, (mtr_record){ .kind = MTR_KIND_REPORT, .reason = reason, .ticks = used });
-}
-
-static mtr_answer change(host *h, uint8_t thread, uint16_t reservation)
-{
-    return tell(h, (mtr_record){ .kind = MTR_KIND_CHANGE, .subject = thread, .amount = reservation });
-}
-
-/* Ticks left of a thread's quantum. */
-static int32_t allotment(const host *h, unsigned thread)
-{
-    return h->state.threads[thread].allotment;
-}
-
-/* ---- the simulated threads ---- */
-
-enum { READOUT, PUMPS, VIEWER, EXPORTER, SELF_TEST, ARCHIVE, TASKS };
+enum { READOUT, PUMPS, VIEWER, EXPORTER, SELF_TEST, ARCHIVE, PRINTER, PACKER, TASKS };
 
 /* Readout during a method change, and the archive, which makes room for it. */
 enum { RAISED = 700, LOWERED = 50 };
@@ -162,33 +30,55 @@ enum { RAISED = 700, LOWERED = 50 };
 /* The most ticks that the timer fires after the end of a slice: the overrun limit that the scheduler is started with. */
 enum { LATEST = 50 };
 
+/* From low to high, both among them. */
+typedef struct range {
+    uint32_t low, high;
+} range;
+
 /*
  * A thread works for a burst of ticks, ends it for the reason given and, if it blocked, is woken after a pause. One pause of
- * eight is longer by the factor `late`. A burst of 0 never ends. The lab's threads have priorities and no reservations.
+ * eight is longer by the factor `late`. A burst of 0 never ends. A thread that measures is blocked from the end of a sample to
+ * the next. The lab's threads have priorities and no reservations, best-effort threads have weights.
  */
 typedef struct task {
     uint8_t group;
-    uint16_t reservation, priority;
-    uint32_t burst_low, burst_high;
-    uint8_t reason;
-    uint32_t pause_low, pause_high, late;
+    uint16_t reservation, priority, weight;
+    range burst;
+    uint8_t reason, measures;
+    range pause;
+    uint32_t late;
 } task;
 
 static const task tasks[TASKS] = {
-    [READOUT] = { 0, 500, 0, 0, 0, MTR_REASON_TICK, 0, 0, 1 },
-    [PUMPS] = { 0, 100, 0, 600, 900, MTR_REASON_BLOCK, 10000, 10000, 1 },
-    [VIEWER] = { LAB, 0, 3, 3000, 8000, MTR_REASON_YIELD, 0, 0, 1 },
-    [EXPORTER] = { LAB, 0, 8, 1500, 4000, MTR_REASON_BLOCK, 200, 3000, 10 },
-    [SELF_TEST] = { 0, 50, 0, 5000, 5000, MTR_REASON_EXIT, 0, 0, 1 },
-    [ARCHIVE] = { 0, 200, 0, 0, 0, MTR_REASON_TICK, 0, 0, 1 },
+    [READOUT] = { .reservation = 500, .measures = 1 },
+    [PUMPS] = { .reservation = 100, .burst = { 600, 900 }, .reason = MTR_REASON_BLOCK, .pause = { 10000, 10000 }, .late = 1 },
+    [VIEWER] = { .group = LAB, .priority = 3, .burst = { 3000, 8000 }, .reason = MTR_REASON_YIELD, .measures = 1 },
+    [EXPORTER] = { .group = LAB, .priority = 8, .burst = { 1500, 4000 }, .reason = MTR_REASON_BLOCK, .pause = { 200, 3000 },
+        .late = 10 },
+    [SELF_TEST] = { .reservation = 50, .burst = { 5000, 5000 }, .reason = MTR_REASON_EXIT },
+    [ARCHIVE] = { .reservation = 200, .measures = 1 },
+    /* Prints a page of the report, then waits for the next one. */
+    [PRINTER] = { .weight = 1, .burst = { 12000, 24000 }, .reason = MTR_REASON_BLOCK, .pause = { 4000, 8000 }, .late = 1 },
+    /* Packs what there is of the log, then waits for more. */
+    [PACKER] = { .weight = 3, .burst = { 30000, 60000 }, .reason = MTR_REASON_BLOCK, .pause = { 1000, 4000 }, .late = 1 },
 };
 
 static const uint64_t NEVER = UINT64_MAX;
+static const uint32_t ENDLESS = UINT32_MAX;
 
 /* What a thread used beyond its allotment, and the allotment that it then had: its quantum less the debt. */
 typedef struct debt {
     int32_t owed, left;
 } debt;
+
+/*
+ * Readout, runnable all along and with the same reservation: the ticks of all threads meanwhile, and its own. There is one
+ * before, in and after the method change, and one in the next sample.
+ */
+typedef struct stretch {
+    uint16_t reservation;
+    uint64_t all, own;
+} stretch;
 
 typedef struct world {
     uint64_t clock, random;
@@ -199,34 +89,47 @@ typedef struct world {
     uint64_t due[TASKS];
     /* The largest debt of each. */
     debt debts[TASKS];
-    /* How many steps of the run are done, and whether readout is before, in or after its method change. */
-    unsigned steps, stretch;
-    /* Ticks of all threads in each of these stretches, and readout's own. */
-    uint64_t all[3], own[3];
+    /* How many steps of the run are done, and whether a sample is measured. */
+    unsigned steps, measuring;
+    /* Who is blocked until the next sample. */
+    unsigned waits[TASKS];
+    /* Readout's stretches up to now. */
+    stretch stretches[4];
+    unsigned stretch_count;
+    /* Ticks of each best-effort task. */
+    uint64_t spare[TASKS];
 } world;
 
-/* SplitMix64, from low to high. */
-static uint32_t between(world *w, uint32_t low, uint32_t high)
+/* SplitMix64, of the range. */
+static uint32_t between(world *w, range r)
 {
     w->random += UINT64_C(0x9e3779b97f4a7c15);
     uint64_t z = w->random;
     z = (z ^ (z >> 30)) * UINT64_C(0xbf58476d1ce4e5b9);
     z = (z ^ (z >> 27)) * UINT64_C(0x94d049bb133111eb);
     z ^= z >> 31;
-    return low + (uint32_t)(z % (high - low + 1));
+    return r.low + (uint32_t)(z % (r.high - r.low + 1));
 }
 
 static void begin_burst(world *w, unsigned n)
 {
-    w->left[n] = tasks[n].burst_high == 0 ? UINT32_MAX : between(w, tasks[n].burst_low, tasks[n].burst_high);
+    w->left[n] = tasks[n].burst.high == 0 ? ENDLESS : between(w, tasks[n].burst);
     w->due[n] = NEVER;
 }
 
 static void admit_task(host *h, world *w, unsigned n)
 {
     const task *t = &tasks[n];
-    must(admit(h, (uint8_t)n, t->group, t->group == LAB ? imported(&w->priorities, t->priority) : t->reservation));
+    if (t->weight > 0)
+        must(admit_best_effort(h, (uint8_t)n, t->weight));
+    else
+        must(admit(h, (uint8_t)n, t->group, t->group == LAB ? imported(&w->priorities, t->priority) : t->reservation));
     begin_burst(w, n);
+}
+
+static void begin_stretch(world *w, uint16_t reservation)
+{
+    w->stretches[w->stretch_count++].reservation = reservation;
 }
 
 /*
@@ -244,17 +147,17 @@ static void raise_readout(host *h, world *w)
         return;
     }
     must(answer);
-    w->stretch = 1;
+    begin_stretch(w, RAISED);
 }
 
 /* After the method change: readout goes back first, so that the archive has room. */
 static void restore_readout(host *h, world *w)
 {
-    if (w->stretch != 1)
+    if (w->stretch_count != 2)
         return;
     must(change(h, READOUT, tasks[READOUT].reservation));
     must(change(h, ARCHIVE, tasks[ARCHIVE].reservation));
-    w->stretch = 2;
+    begin_stretch(w, tasks[READOUT].reservation);
 }
 
 /* Power-up, and mistakes that a host can make: each of those is refused and changes nothing. */
@@ -278,6 +181,15 @@ static void boot(host *h, world *w)
     close_group(h, LAB);
     change(h, MTR_THREADS, 1);
     change(h, READOUT, MTR_WHOLE + 1);
+    admit_best_effort(h, MTR_THREADS, 1);
+    admit_best_effort(h, READOUT, 1);
+    admit_best_effort(h, TASKS, MTR_LEAST_WEIGHT - 1);
+    admit_best_effort(h, TASKS, MTR_MOST_WEIGHT + 1);
+    /* The printer has no reservation to change. */
+    change(h, PRINTER, 1);
+    /* The first sample. */
+    w->measuring = 1;
+    begin_stretch(w, tasks[READOUT].reservation);
     /* Too early: the self-test still has its reservation. */
     raise_readout(h, w);
 }
@@ -291,6 +203,26 @@ static void reconnect(host *h, world *w)
     must(open_group(h, LAB, 0, LAB_CEILING));
     admit_task(h, w, VIEWER);
     admit_task(h, w, EXPORTER);
+}
+
+/* The sample is done: who measures has some ticks to do yet and then blocks. */
+static void end_sample(host *h, world *w)
+{
+    (void)h;
+    w->measuring = 0;
+    for (unsigned n = 0; n < TASKS; n++)
+        if (tasks[n].measures)
+            w->left[n] = between(w, (range){ 500, 2000 });
+}
+
+/* The next sample: who measures is due now. */
+static void begin_sample(host *h, world *w)
+{
+    (void)h;
+    w->measuring = 1;
+    for (unsigned n = 0; n < TASKS; n++)
+        if (w->waits[n])
+            w->due[n] = w->clock;
 }
 
 /* What a confused driver does while a thread runs: all of it is refused. */
@@ -317,12 +249,18 @@ static uint64_t next_due(const world *w)
 /* Reports all ticks that the running thread used, those beyond its slice too, and notes them and what it owes for them. */
 static void end_run(host *h, world *w, unsigned n, uint8_t reason, uint32_t used)
 {
-    const int32_t owed = (int32_t)used - allotment(h, n);
+    const int best_effort = tasks[n].weight > 0;
+    const int32_t owed = best_effort ? 0 : (int32_t)used - allotment(h, n);
     must(report(h, reason, used));
     if (owed > w->debts[n].owed)
         w->debts[n] = (debt){ owed, allotment(h, n) };
-    w->all[w->stretch] += used;
-    w->own[w->stretch] += n == READOUT ? used : 0;
+    w->spare[n] += best_effort ? used : 0;
+    /* The report with which readout blocks is in no stretch. */
+    if (w->waits[READOUT])
+        return;
+    stretch *now = &w->stretches[w->stretch_count - 1];
+    now->all += used;
+    now->own += n == READOUT ? used : 0;
 }
 
 /*
@@ -332,45 +270,60 @@ static void end_run(host *h, world *w, unsigned n, uint8_t reason, uint32_t used
 static void run(host *h, world *w, unsigned n, uint32_t slice)
 {
     const task *t = &tasks[n];
-    uint32_t used = slice + between(w, 0, LATEST);
+    uint32_t used = slice + between(w, (range){ 0, LATEST });
     if (w->left[n] < used)
         used = w->left[n];
     uint64_t next = next_due(w);
     if (next - w->clock < used)
         used = (uint32_t)(next - w->clock);
     w->clock += used;
-    if (t->burst_high > 0)
+    if (w->left[n] != ENDLESS)
         w->left[n] -= used;
     if (w->left[n] > 0) {
         end_run(h, w, n, MTR_REASON_TICK, used);
         return;
     }
-    end_run(h, w, n, t->reason, used);
+    w->waits[n] = t->measures && !w->measuring;
+    end_run(h, w, n, w->waits[n] ? MTR_REASON_BLOCK : t->reason, used);
     begin_burst(w, n);
     if (t->reason == MTR_REASON_BLOCK) {
-        uint32_t pause = between(w, t->pause_low, t->pause_high);
-        w->due[n] = w->clock + pause * (between(w, 0, 7) == 0 ? t->late : 1);
+        uint32_t pause = between(w, t->pause);
+        w->due[n] = w->clock + pause * (between(w, (range){ 0, 7 }) == 0 ? t->late : 1);
     }
 }
 
-static void simulate(host *h, world *w, uint64_t end)
+/* Wakes who is due. */
+static void wake_due(host *h, world *w)
 {
-    static void (*const steps[])(host *, world *) = { raise_readout, reconnect, restore_readout };
+    for (unsigned n = 0; n < TASKS; n++)
+        if (w->due[n] <= w->clock) {
+            must(wake(h, (uint8_t)n));
+            if (n == READOUT)
+                begin_stretch(w, tasks[READOUT].reservation);
+            w->waits[n] = 0;
+            w->due[n] = NEVER;
+        }
+}
+
+/* The steps of the run, by quarters of the sample's time, between a report and a dispatch: nothing runs. */
+static const struct {
+    unsigned quarter;
+    void (*take)(host *, world *);
+} steps[] = { { 1, raise_readout }, { 2, reconnect }, { 3, restore_readout }, { 4, end_sample }, { 6, begin_sample } };
+
+static void simulate(host *h, world *w, uint64_t sample)
+{
+    const uint64_t quarter = sample / 4;
     boot(h, w);
     uint64_t dispatches = 0;
-    while (w->clock < end) {
-        /* A step at each quarter of the run. Nothing runs here. */
-        while (w->steps < 3 && w->clock >= (w->steps + 1) * (end / 4))
-            steps[w->steps++](h, w);
-        for (unsigned n = 0; n < TASKS; n++)
-            if (w->due[n] <= w->clock) {
-                must(wake(h, (uint8_t)n));
-                w->due[n] = NEVER;
-            }
+    while (w->clock < 7 * quarter) {
+        while (w->steps < sizeof steps / sizeof *steps && w->clock >= steps[w->steps].quarter * quarter)
+            steps[w->steps++].take(h, w);
+        wake_due(h, w);
         mtr_run choice;
         must(dispatch(h, &choice));
         if (choice.thread == MTR_NO_THREAD) {
-            /* Readout is always runnable, so this host is never idle after power-up. Others sleep until the next wake. */
+            /* Nobody can run, of either kind: sleep until the next wake. */
             w->clock = next_due(w);
             continue;
         }
@@ -399,15 +352,26 @@ static uint64_t thousandths(uint64_t part, uint64_t whole)
     return quotient + (twice > whole || (twice == whole && quotient % 2 == 1));
 }
 
-/* The debts; then for each stretch readout's reservation, the ticks of all threads, and readout's thousandths of them. */
+/*
+ * The debts; then for each stretch readout's reservation, the ticks of all threads, and readout's thousandths of them; then
+ * for each best-effort thread its weight, its ticks, its thousandths of such ticks, and its weight's of the weights.
+ */
 static void print_figures(const world *w)
 {
     for (unsigned n = 0; n < TASKS; n++)
         if (w->debts[n].owed > 0)
             printf("debt %u %" PRId32 " %" PRId32 "\n", n, w->debts[n].owed, w->debts[n].left);
-    for (unsigned i = 0; i <= w->stretch; i++)
-        printf("readout %d %" PRIu64 " %" PRIu64 "\n", i == 1 ? RAISED : tasks[READOUT].reservation, w->all[i],
-            thousandths(w->own[i], w->all[i]));
+    for (const stretch *s = w->stretches; s < w->stretches + w->stretch_count; s++)
+        printf("readout %d %" PRIu64 " %" PRIu64 "\n", s->reservation, s->all, thousandths(s->own, s->all));
+    uint64_t weights = 0, spare = 0;
+    for (unsigned n = 0; n < TASKS; n++) {
+        weights += tasks[n].weight;
+        spare += w->spare[n];
+    }
+    for (unsigned n = 0; n < TASKS; n++)
+        if (tasks[n].weight > 0)
+            printf("best-effort %u %d %" PRIu64 " %" PRIu64 " %" PRIu64 "\n", n, tasks[n].weight, w->spare[n],
+                thousandths(w->spare[n], spare), thousandths(tasks[n].weight, weights));
 }
 
 /* Reads a whole number, decimal. */

@@ -13,13 +13,20 @@ pub struct Debt {
     pub left: i32,
 }
 
-/// A stretch in which readout's reservation is the same: the ticks of all
-/// threads in it, and readout's own.
+/// A stretch in which readout is runnable and has the same reservation: the
+/// ticks of all threads in it, and readout's own.
 #[derive(Clone, Copy, Default)]
 pub struct Stretch {
     pub reservation: u16,
     pub all: u64,
     pub own: u64,
+}
+
+/// What a best-effort thread had of the time that the reserved ones left.
+pub struct Spare {
+    pub thread: u8,
+    pub weight: u16,
+    pub ticks: u64,
 }
 
 /// A part in thousandths of the whole, to the nearest, half to even, as the
@@ -101,10 +108,8 @@ impl Host {
         Ok(())
     }
 
-    /// Writes the last block and prints the roster, the debts by thread, and for
-    /// each stretch readout's reservation, the ticks of all threads and readout's
-    /// thousandths of them.
-    pub fn finish(mut self, debts: &[Debt], stretches: &[Stretch]) -> io::Result<()> {
+    /// Writes the last block and prints the roster.
+    pub fn finish(&mut self) -> io::Result<()> {
         if !self.events.is_empty() {
             self.flush_block()?;
         }
@@ -124,6 +129,19 @@ impl Host {
                 "roster {thread} {state} {allotment} {lag} {share}"
             )?;
         }
+        Ok(())
+    }
+
+    /// Prints the debts by thread, for each stretch readout's reservation, the
+    /// ticks of all threads and readout's thousandths of them, and for each
+    /// best-effort thread its weight, its ticks, its thousandths of such ticks and
+    /// its weight's of the weights.
+    pub fn print_figures(
+        &mut self,
+        debts: &[Debt],
+        stretches: &[Stretch],
+        spares: &[Spare],
+    ) -> io::Result<()> {
         for (thread, debt) in debts.iter().enumerate() {
             if debt.owed > 0 {
                 writeln!(self.out, "debt {thread} {} {}", debt.owed, debt.left)?;
@@ -134,7 +152,18 @@ impl Host {
             let share = thousandths(stretch.own, all);
             writeln!(self.out, "readout {reservation} {all} {share}")?;
         }
-        Ok(())
+        let all = spares.iter().map(|spare| spare.ticks).sum();
+        let weights = spares.iter().map(|spare| u64::from(spare.weight)).sum();
+        for spare in spares {
+            let (thread, weight, ticks) = (spare.thread, spare.weight, spare.ticks);
+            let share = thousandths(ticks, all);
+            let due = thousandths(weight.into(), weights);
+            writeln!(
+                self.out,
+                "best-effort {thread} {weight} {ticks} {share} {due}"
+            )?;
+        }
+        self.out.flush()
     }
 }
 

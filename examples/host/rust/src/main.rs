@@ -2,8 +2,10 @@
 //! archive, the lab's viewer and an exporter that waits for a server whose
 //! replies come sooner or later, under a timer that fires up to 50 ticks late.
 //! For a while a method change needs more readout. The lab's programs are
-//! admitted by their priorities, under a table of the lab's own. Every call of
-//! the scheduler is journalled into event blocks.
+//! admitted by their priorities, under a table of the lab's own. A report
+//! printer and a log packer reserve nothing: between two samples they share, by
+//! weight, the time that the others leave. Every call of the scheduler is
+//! journalled into event blocks.
 //!
 //! ```text
 //! cargo run --release -p controller -- SEED JOURNAL [MILLISECONDS]
@@ -11,14 +13,16 @@
 //!
 //! Standard output has a line for each call, as `mtrrun` prints it for the
 //! call's record (number, answer, thread, slice, threads before it), and at the
-//! end the roster, each thread's largest debt and readout's share under each
-//! reservation. `target/bin/mtrrun < JOURNAL` prints the same lines but for
-//! these tables. `examples/host/c` is the same host in C.
+//! end the roster, each thread's largest debt, readout's share under each
+//! reservation and the best-effort threads' shares beside their weights.
+//! `target/bin/mtrrun < JOURNAL` prints the same lines but for these tables.
+//! `examples/host/c` is the same host in C.
 
 #![forbid(unsafe_code)]
 
 mod host;
 mod lab;
+mod tasks;
 mod world;
 
 use std::error::Error;
@@ -53,5 +57,7 @@ fn run() -> Result<(), Box<dyn Error>> {
     let mut host = Host::new(File::create(journal)?);
     let mut world = World::new(seed);
     world.simulate(&mut host, 1000 * milliseconds)?;
-    Ok(host.finish(world.debts(), world.stretches())?)
+    host.finish()?;
+    host.print_figures(world.debts(), world.stretches(), &world.spares())?;
+    Ok(())
 }

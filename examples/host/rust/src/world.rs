@@ -1,16 +1,12 @@
-//! The simulated threads and the loop.
+//! The loop, and what the simulated threads do in it.
 
 use std::io;
 
 use mtr::{Dispatch, Event, PriorityTable, Reason, Refusal, Settings};
 
-use crate::host::{Debt, Host, Stretch};
+use crate::host::{Debt, Host, Spare, Stretch};
 use crate::lab::{self, LAB, LAB_CEILING};
-
-const READOUT: u8 = 0;
-const VIEWER: u8 = 2;
-const EXPORTER: u8 = 3;
-const ARCHIVE: u8 = 5;
+use crate::tasks::{reservation_of, Claim, ARCHIVE, EXPORTER, PRINTER, READOUT, TASKS, VIEWER};
 
 /// Readout during a method change, and the archive, which makes room for it.
 const RAISED: u16 = 700;
@@ -20,91 +16,16 @@ const LOWERED: u16 = 50;
 /// limit that the scheduler is started with.
 const LATEST: u16 = 50;
 
-/// A thread works for a burst of ticks, ends it for the reason given and, if it
-/// blocked, is woken after a pause. One pause of eight is longer by the factor
-/// `late`. Without a burst it works on for ever.
-struct Task {
-    group: u8,
-    reservation: u16,
-    /// The lab's threads have priorities and no reservations.
-    priority: Option<u8>,
-    burst: Option<(u32, u32)>,
-    reason: Reason,
-    pause: (u32, u32),
-    late: u32,
-}
-
-const TASKS: [Task; 6] = [
-    // Readout.
-    Task {
-        group: 0,
-        reservation: 500,
-        priority: None,
-        burst: None,
-        reason: Reason::Tick,
-        pause: (0, 0),
-        late: 1,
-    },
-    // Pumps.
-    Task {
-        group: 0,
-        reservation: 100,
-        priority: None,
-        burst: Some((600, 900)),
-        reason: Reason::Block,
-        pause: (10_000, 10_000),
-        late: 1,
-    },
-    // The viewer.
-    Task {
-        group: LAB,
-        reservation: 0,
-        priority: Some(3),
-        burst: Some((3_000, 8_000)),
-        reason: Reason::Yield,
-        pause: (0, 0),
-        late: 1,
-    },
-    // The exporter.
-    Task {
-        group: LAB,
-        reservation: 0,
-        priority: Some(8),
-        burst: Some((1_500, 4_000)),
-        reason: Reason::Block,
-        pause: (200, 3_000),
-        late: 10,
-    },
-    // The self-test at power-up.
-    Task {
-        group: 0,
-        reservation: 50,
-        priority: None,
-        burst: Some((5_000, 5_000)),
-        reason: Reason::Exit,
-        pause: (0, 0),
-        late: 1,
-    },
-    // The archive.
-    Task {
-        group: 0,
-        reservation: 200,
-        priority: None,
-        burst: None,
-        reason: Reason::Tick,
-        pause: (0, 0),
-        late: 1,
-    },
-];
-
 /// A step of the run, between a report and the next dispatch: nothing runs.
 type Step = fn(&mut World, &mut Host) -> io::Result<()>;
 
-/// The steps at each quarter of the run.
-const STEPS: [Step; 3] = [
-    World::raise_readout,
-    World::reconnect,
-    World::restore_readout,
+/// The steps of the run, by quarters of the sample's time.
+const STEPS: [(u64, Step); 5] = [
+    (1, World::raise_readout),
+    (2, World::reconnect),
+    (3, World::restore_readout),
+    (4, World::end_sample),
+    (6, World::begin_sample),
 ];
 
 pub struct World {
@@ -120,8 +41,13 @@ pub struct World {
     debts: [Debt; TASKS.len()],
     /// How many steps of the run are done.
     steps: usize,
-    /// Readout before, in and after its method change.
+    /// Whether a sample is measured, and who is blocked until the next one.
+    measuring: bool,
+    waits: [bool; TASKS.len()],
+    /// Readout before, in and after its method change, and in the next sample.
     stretches: Vec<Stretch>,
+    /// Ticks of each best-effort task.
+    spare: [u64; TASKS.len()],
 }
 
 impl World {
@@ -134,7 +60,10 @@ impl World {
             due: [None; TASKS.len()],
             debts: [Debt::default(); TASKS.len()],
             steps: 0,
+            measuring: true,
+            waits: [false; TASKS.len()],
             stretches: vec![stretch(reservation_of(READOUT))],
+            spare: [0; TASKS.len()],
         }
     }
 
@@ -146,22 +75,36 @@ impl World {
         &self.stretches
     }
 
+    /// The best-effort threads with what they used.
+    pub fn spares(&self) -> Vec<Spare> {
+        (0..)
+            .zip(&TASKS)
+            .zip(&self.spare)
+            .filter_map(|((thread, task), &ticks)| {
+                let weight = task.weight()?;
+                Some(Spare {
+                    thread,
+                    weight,
+                    ticks,
+                })
+            })
+            .collect()
+    }
+
     /// The loop: wake who is due, dispatch, run, report.
-    pub fn simulate(&mut self, host: &mut Host, end: u64) -> io::Result<()> {
+    pub fn simulate(&mut self, host: &mut Host, sample: u64) -> io::Result<()> {
+        let quarter = sample / 4;
         self.boot(host)?;
         let mut dispatches = 0;
-        while self.clock < end {
-            while self.steps < STEPS.len() && self.clock >= (self.steps as u64 + 1) * (end / 4) {
-                STEPS[self.steps](self, host)?;
+        while self.clock < 7 * quarter {
+            while let Some((at, step)) = STEPS.get(self.steps) {
+                if self.clock < at * quarter {
+                    break;
+                }
+                step(self, host)?;
                 self.steps += 1;
             }
-            for thread in 0..TASKS.len() {
-                if self.due[thread].is_some_and(|due| due <= self.clock) {
-                    let thread = thread as u8;
-                    host.accepted(Event::Wake { thread })?;
-                    self.due[thread as usize] = None;
-                }
-            }
+            self.wake_due(host)?;
             match host.accepted(Event::Dispatch)? {
                 Some(Dispatch::Run { thread, slice, .. }) => {
                     dispatches += 1;
@@ -170,8 +113,7 @@ impl World {
                     }
                     self.run(host, thread, slice)?;
                 }
-                // Readout is always runnable, so this host is never idle after
-                // power-up. Others sleep until the next wake.
+                // Nobody can run, of either kind: sleep until the next wake.
                 _ => match self.due.iter().flatten().min() {
                     Some(&next) => self.clock = next,
                     None => break,
@@ -244,6 +186,12 @@ impl World {
             Event::Close { group: LAB },
             change(64, 1),
             change(READOUT, 1_001),
+            admit_best_effort(64, 1),
+            admit_best_effort(READOUT, 1),
+            admit_best_effort(TASKS.len() as u8, 0),
+            admit_best_effort(TASKS.len() as u8, 17),
+            // The printer has no reservation to change.
+            change(PRINTER, 1),
         ] {
             let _refused = host.call(event)?;
         }
@@ -253,8 +201,8 @@ impl World {
 
     /// A method change needs more readout. The archive makes room first; where
     /// there is still too little, it gets its reservation back, not what was cut of
-    /// its turn, and readout goes on with what it has. A running thread can't be changed, so this is done between a
-    /// report and a dispatch.
+    /// its turn, and readout goes on with what it has. A running thread can't be
+    /// changed, so this is done between a report and a dispatch.
     fn raise_readout(&mut self, host: &mut Host) -> io::Result<()> {
         host.accepted(change(ARCHIVE, LOWERED))?;
         let answer = host.call(change(READOUT, RAISED))?;
@@ -301,21 +249,60 @@ impl World {
         self.admit(host, EXPORTER)
     }
 
+    /// The sample is done: who measures has some ticks to do yet and then blocks.
+    fn end_sample(&mut self, _: &mut Host) -> io::Result<()> {
+        self.measuring = false;
+        for (n, task) in TASKS.iter().enumerate() {
+            if task.measures {
+                self.left[n] = Some(self.between((500, 2_000)));
+            }
+        }
+        Ok(())
+    }
+
+    /// The next sample: who measures is due now.
+    fn begin_sample(&mut self, _: &mut Host) -> io::Result<()> {
+        self.measuring = true;
+        for n in 0..TASKS.len() {
+            if self.waits[n] {
+                self.due[n] = Some(self.clock);
+            }
+        }
+        Ok(())
+    }
+
+    fn wake_due(&mut self, host: &mut Host) -> io::Result<()> {
+        for thread in 0..TASKS.len() as u8 {
+            let n = thread as usize;
+            if self.due[n].is_some_and(|due| due <= self.clock) {
+                host.accepted(Event::Wake { thread })?;
+                if thread == READOUT {
+                    self.stretches.push(stretch(reservation_of(READOUT)));
+                }
+                self.waits[n] = false;
+                self.due[n] = None;
+            }
+        }
+        Ok(())
+    }
+
     fn admit(&mut self, host: &mut Host, thread: u8) -> io::Result<()> {
-        let task = &TASKS[thread as usize];
-        let reservation = match task.priority {
-            None => task.reservation,
-            Some(priority) => self
-                .priorities
-                .reservation_of(priority)
-                .map_err(io::Error::other)?,
-        };
-        let event = Event::Admit {
-            thread,
-            group: task.group,
-            reservation,
-        };
-        host.accepted(event)?;
+        host.accepted(match TASKS[thread as usize].claim {
+            Claim::Reserved(reservation) => Event::Admit {
+                thread,
+                group: 0,
+                reservation,
+            },
+            Claim::Imported(priority) => Event::Admit {
+                thread,
+                group: LAB,
+                reservation: self
+                    .priorities
+                    .reservation_of(priority)
+                    .map_err(io::Error::other)?,
+            },
+            Claim::BestEffort(weight) => admit_best_effort(thread, weight),
+        })?;
         self.begin_burst(thread as usize);
         Ok(())
     }
@@ -337,18 +324,21 @@ impl World {
             used = used.min((next - self.clock).try_into().unwrap_or(u32::MAX));
         }
         self.clock += used as u64;
-        let mut reason = Reason::Tick;
         if let Some(left) = &mut self.left[n] {
             *left -= used;
-            if *left == 0 {
-                reason = task.reason;
-            }
         }
+        if self.left[n] != Some(0) {
+            return self.end_run(host, n, Reason::Tick, used);
+        }
+        self.waits[n] = task.measures && !self.measuring;
+        let reason = if self.waits[n] {
+            Reason::Block
+        } else {
+            task.reason
+        };
         self.end_run(host, n, reason, used)?;
-        if reason != Reason::Tick {
-            self.begin_burst(n);
-        }
-        if reason == Reason::Block {
+        self.begin_burst(n);
+        if task.reason == Reason::Block {
             let pause = self.between(task.pause);
             let factor = if self.between((0, 7)) == 0 {
                 task.late
@@ -363,16 +353,27 @@ impl World {
     /// Reports all ticks that the running thread used, those beyond its slice
     /// too, and notes them and what it owes for them.
     fn end_run(&mut self, host: &mut Host, n: usize, reason: Reason, used: u32) -> io::Result<()> {
-        let owed = used as i32 - host.allotment(n);
+        let best_effort = TASKS[n].weight().is_some();
+        let owed = if best_effort {
+            0
+        } else {
+            used as i32 - host.allotment(n)
+        };
         let reason = reason.number();
         host.accepted(Event::Report { reason, used })?;
         if owed > self.debts[n].owed {
             let left = host.allotment(n);
             self.debts[n] = Debt { owed, left };
         }
-        if let Some(stretch) = self.stretches.last_mut() {
-            stretch.all += u64::from(used);
-            stretch.own += if n == READOUT.into() { used.into() } else { 0 };
+        let used = u64::from(used);
+        if best_effort {
+            self.spare[n] += used;
+        }
+        // The report with which readout blocks is in no stretch.
+        let reading = !self.waits[usize::from(READOUT)];
+        if let Some(stretch) = self.stretches.last_mut().filter(|_| reading) {
+            stretch.all += used;
+            stretch.own += if n == READOUT.into() { used } else { 0 };
         }
         Ok(())
     }
@@ -395,8 +396,8 @@ fn change(thread: u8, reservation: u16) -> Event {
     }
 }
 
-fn reservation_of(thread: u8) -> u16 {
-    TASKS[thread as usize].reservation
+fn admit_best_effort(thread: u8, weight: u16) -> Event {
+    Event::AdmitBestEffort { thread, weight }
 }
 
 /// A stretch that begins.

@@ -1,6 +1,8 @@
 //! The host in C and the host in Rust: the same journal, byte by byte, and `mtrrun` prints for it what both were answered.
 
 mod common;
+#[path = "hosts/idle.rs"]
+mod idle;
 
 use common::{c_source, compiled, root, run, scratch, thousandths};
 use mtr::{blocks, Event, PriorityRow, PriorityTable, Reason, Settings};
@@ -61,7 +63,7 @@ fn events(journal: &[u8]) -> Vec<Event> {
 }
 
 /// A line's five numbers, or a roster line's number, allotment, lag and share, or a debt line's number, debt and allotment, or a readout
-/// line's reservation, ticks and share.
+/// line's reservation, ticks and share, or a best-effort line's number, weight, ticks, share and the weight's share.
 fn numbers(line: &str) -> Vec<i64> {
     let words = line.split(' ');
     words.filter_map(|word| word.parse().ok()).collect()
@@ -69,6 +71,8 @@ fn numbers(line: &str) -> Vec<i64> {
 
 const READOUT: u8 = 0;
 const ARCHIVE: u8 = 5;
+const PRINTER: u8 = 6;
+const PACKER: u8 = 7;
 
 /// The settings that both hosts start with.
 fn settings() -> Settings {
@@ -95,8 +99,7 @@ struct Owed {
 }
 
 impl Owed {
-    fn of(reservation: u16) -> Owed {
-        let reservation = reservation.into();
+    fn of(reservation: i64) -> Owed {
         Owed {
             reservation,
             ..Owed::default()
@@ -121,10 +124,13 @@ impl Owed {
     }
 }
 
-/// The stretches of a journal: one from readout's admission on, and one from each change of its reservation.
-fn owed(events: &[Event], lines: &[&str]) -> Vec<Owed> {
+/// The stretches of a journal: one from readout's admission on, and one from each change of its reservation and each wake. It ends where
+/// readout blocks, before that report. With them readout's ticks since its admission, and those of all.
+fn owed(events: &[Event], lines: &[&str]) -> (Vec<Owed>, [i64; 2]) {
     let (mut running, mut slice) = (None, 0);
     let mut stretches: Vec<Owed> = Vec::new();
+    let mut blocked = false;
+    let mut ticks = [0; 2];
     for (event, line) in events.iter().zip(lines) {
         let line = numbers(line);
         if line[1] != 0 {
@@ -139,40 +145,67 @@ fn owed(events: &[Event], lines: &[&str]) -> Vec<Owed> {
             | Event::Change {
                 thread: READOUT,
                 reservation,
-            } => stretches.push(Owed::of(reservation)),
+            } => stretches.push(Owed::of(reservation.into())),
+            Event::Wake { thread: READOUT } => {
+                blocked = false;
+                let reservation = stretches.last().unwrap().reservation;
+                stretches.push(Owed::of(reservation));
+            }
             Event::Dispatch => (running, slice) = (Some(line[2]), line[3]),
             Event::Report { reason, used } => {
                 let reads = running == Some(READOUT as i64);
-                assert!(!reads || reason == 0);
-                let stretch = stretches.last_mut().unwrap();
-                stretch.charge(reads, used.into(), slice);
+                let used = used.into();
+                ticks[0] += if reads { used } else { 0 };
+                ticks[1] += used;
+                if reads && reason != Reason::Tick.number() {
+                    assert_eq!(reason, Reason::Block.number());
+                    blocked = true;
+                }
+                if !blocked {
+                    let stretch = stretches.last_mut().unwrap();
+                    stretch.charge(reads, used, slice);
+                }
             }
             _ => {}
         }
     }
-    stretches
+    (stretches, ticks)
 }
 
-/// The changes of a journal with their answers: thread, reservation, answer.
-fn changes(events: &[Event], lines: &[&str]) -> Vec<(u8, u16, i64)> {
-    let rows = events.iter().zip(lines);
-    rows.filter_map(|(event, line)| match *event {
-        Event::Change {
-            thread,
-            reservation,
-        } => Some((thread, reservation, numbers(line)[1])),
-        _ => None,
-    })
-    .collect()
+/// A thread, a reservation or a weight, and the answer.
+type Asked = (u8, u16, i64);
+
+/// The changes of a journal, those where nothing runs and those of the running thread.
+fn changes(events: &[Event], lines: &[&str]) -> [Vec<Asked>; 2] {
+    let mut changes = [Vec::new(), Vec::new()];
+    let mut running = None;
+    for (event, line) in events.iter().zip(lines) {
+        let line = numbers(line);
+        match *event {
+            Event::Change {
+                thread,
+                reservation,
+            } => {
+                assert!(running.is_none_or(|running| running == thread.into()));
+                changes[running.is_some() as usize].push((thread, reservation, line[1]));
+            }
+            _ if line[1] != 0 => {}
+            Event::Dispatch if line[2] != 64 => running = Some(line[2]),
+            Event::Report { .. } => running = None,
+            _ => {}
+        }
+    }
+    changes
 }
 
 /// The largest debt of each thread in a journal, and the allotment that it left, computed from the slices and the ticks used: every
-/// slice is that of an allotment from which the debt before it is taken.
+/// slice is that of an allotment from which the debt before it is taken. A best-effort thread has no debt, and its slice is P.
 fn debts(events: &[Event], lines: &[&str]) -> Vec<Vec<i64>> {
     let settings = settings();
     let (m, p) = (settings.thousandth as i64, settings.interval as i64);
     let mut quantum = [0; 64];
     let mut allotment = [0; 64];
+    let mut best_effort = [false; 64];
     let mut most = [(0, 0); 64];
     let (mut n, mut slice) = (0, 0);
     for (event, line) in events.iter().zip(lines) {
@@ -187,6 +220,7 @@ fn debts(events: &[Event], lines: &[&str]) -> Vec<Vec<i64>> {
                 quantum[thread as usize] = reservation as i64 * m;
                 allotment[thread as usize] = reservation as i64 * m;
             }
+            Event::AdmitBestEffort { thread, .. } => best_effort[thread as usize] = true,
             // Cut, and never raised.
             Event::Change {
                 thread,
@@ -198,11 +232,19 @@ fn debts(events: &[Event], lines: &[&str]) -> Vec<Vec<i64>> {
             }
             Event::Dispatch if line[2] != 64 => {
                 (n, slice) = (line[2] as usize, line[3]);
-                assert_eq!(slice, allotment[n].min(p), "{line:?}");
+                let wanted = if best_effort[n] {
+                    p
+                } else {
+                    allotment[n].min(p)
+                };
+                assert_eq!(slice, wanted, "{line:?}");
             }
             Event::Report { reason, used } => {
                 let used = used as i64;
                 assert!(used <= slice + settings.overrun as i64);
+                if best_effort[n] {
+                    continue;
+                }
                 let left = allotment[n] - used;
                 allotment[n] = match left {
                     ..=0 => left + quantum[n],
@@ -232,7 +274,8 @@ fn compare(seed: &str, milliseconds: &str) {
     let at = printed.find("roster").unwrap();
     let (answers, tables) = printed.split_at(at);
     let (roster, tables) = tables.split_at(tables.find("debt").unwrap());
-    let (in_debt, stretches) = tables.split_at(tables.find("readout").unwrap());
+    let (in_debt, tables) = tables.split_at(tables.find("readout").unwrap());
+    let (stretches, spare) = tables.split_at(tables.find("best-effort").unwrap());
     assert_eq!(replayed(&rust_name), answers, "{name}");
 
     let (events, lines) = (events(&journal), answers.lines().collect::<Vec<_>>());
@@ -242,6 +285,7 @@ fn compare(seed: &str, milliseconds: &str) {
         assert!(line.len() == 5 && line[0] == i as i64);
     }
     every_call_and_refusal(&events, &lines);
+    admissions(&events, &lines);
     lab(&events, &lines);
 
     // The debts are kept.
@@ -249,16 +293,22 @@ fn compare(seed: &str, milliseconds: &str) {
     assert!(in_debt.len() > 1, "{in_debt:?}");
     assert_eq!(in_debt, debts(&events, &lines));
 
-    readout(
-        &owed(&events, &lines),
-        &roster.lines().map(numbers).collect::<Vec<_>>(),
-        &stretches.lines().map(numbers).collect::<Vec<_>>(),
+    let rows = |table: &str| table.lines().map(numbers).collect::<Vec<_>>();
+    let (owed, ticks) = owed(&events, &lines);
+    let roster = rows(roster);
+    assert_eq!(roster.len(), 7);
+    readout(&owed, ticks, &roster, &rows(stretches));
+    best_effort(
+        &idle::spare(&events, &lines),
+        ticks[1],
+        &roster,
+        &rows(spare),
     );
 }
 
 /// Every kind of call is accepted at least once, and every refusal that a host can meet occurs.
 fn every_call_and_refusal(events: &[Event], lines: &[&str]) {
-    let mut accepted = [0; 10];
+    let mut accepted = [0; 11];
     let mut refusals = [0; 21];
     for (event, line) in events.iter().zip(lines) {
         let answer = numbers(line)[1] as usize;
@@ -269,13 +319,20 @@ fn every_call_and_refusal(events: &[Event], lines: &[&str]) {
     let seen: Vec<usize> = (0..21).filter(|&a| refusals[a] > 0).collect();
     assert_eq!(seen, (0..=14).collect::<Vec<_>>());
 
-    // Changes: two mistakes, a method change that comes too early and is taken back, one that fits, and its end.
-    let (running, others): (Vec<_>, Vec<_>) =
-        changes(events, lines).into_iter().partition(|c| c.2 == 9);
-    assert!(!running.is_empty());
+    // Changes: three mistakes, a method change that comes too early and is taken back, one that fits, and its end.
+    let [others, running] = changes(events, lines);
+    // Of a running thread, reserved or best-effort.
+    for (thread, _, answer) in &running {
+        let best_effort = [PRINTER, PACKER].contains(thread);
+        assert_eq!(*answer, if best_effort { 7 } else { 9 });
+    }
+    for answer in [7, 9] {
+        assert!(running.iter().any(|change| change.2 == answer));
+    }
     let wanted = [
         (64, 1, 7),
         (READOUT, 1001, 4),
+        (PRINTER, 1, 7),
         (ARCHIVE, 50, 0),
         (READOUT, 700, 5),
         (ARCHIVE, 200, 0),
@@ -285,6 +342,26 @@ fn every_call_and_refusal(events: &[Event], lines: &[&str]) {
         (ARCHIVE, 200, 0),
     ];
     assert_eq!(others, wanted);
+}
+
+/// The best-effort threads are admitted after the lab's, with their weights. Then come four mistakes.
+fn admissions(events: &[Event], lines: &[&str]) {
+    let rows = events.iter().zip(lines);
+    let admitted: Vec<Asked> = rows
+        .filter_map(|(event, line)| match *event {
+            Event::AdmitBestEffort { thread, weight } => Some((thread, weight, numbers(line)[1])),
+            _ => None,
+        })
+        .collect();
+    let wanted = [
+        (PRINTER, 1, 0),
+        (PACKER, 3, 0),
+        (64, 1, 7),
+        (READOUT, 1, 8),
+        (8, 0, 4),
+        (8, 17, 4),
+    ];
+    assert_eq!(admitted, wanted);
 }
 
 /// The lab's threads are admitted at power-up and half-way, each with what its priority has under the lab's table.
@@ -312,7 +389,7 @@ fn lab(events: &[Event], lines: &[&str]) {
 }
 
 /// Readout's bound over every part of each stretch, its shares, and its lag and share in the roster.
-fn readout(owed: &[Owed], roster: &[Vec<i64>], stretches: &[Vec<i64>]) {
+fn readout(owed: &[Owed], ticks: [i64; 2], roster: &[Vec<i64>], stretches: &[Vec<i64>]) {
     let settings = settings();
     let (m, p) = (settings.thousandth as i64, settings.interval as i64);
     for stretch in owed {
@@ -328,21 +405,41 @@ fn readout(owed: &[Owed], roster: &[Vec<i64>], stretches: &[Vec<i64>]) {
         .map(|stretch| vec![stretch.reservation, stretch.ticks[1], stretch.share()])
         .collect();
     assert_eq!(shown, stretches);
-    let [before, raised, after] = owed else {
+    let [before, raised, after, next] = owed else {
         panic!("{owed:?}");
     };
-    let reserved = [before, raised, after].map(|stretch| stretch.reservation);
-    assert_eq!(reserved, [500, 700, 500]);
-    let more = raised.share() - before.share().max(after.share());
-    assert!(more >= 100, "{shown:?}");
-
-    assert_eq!(roster.len(), 5);
+    let reserved = [before, raised, after, next].map(|stretch| stretch.reservation);
+    assert_eq!(reserved, [500, 700, 500, 500]);
+    for other in [before, after, next] {
+        assert!(raised.share() >= other.share() + 100, "{shown:?}");
+        assert!(other.share() >= 500, "{shown:?}");
+    }
+    // The lag is that since the wake for the next sample, the share that since the admission.
     let row = roster.iter().find(|row| row[0] == READOUT as i64).unwrap();
-    let sum = |i: usize| owed.iter().map(|stretch| stretch.ticks[i]).sum::<i64>();
-    let share = thousandths(sum(0), sum(1));
-    // The lag is that since the last change, the share that since the admission.
-    assert_eq!(row[2..], [after.last, share]);
-    assert!(share >= 500, "{share}");
+    assert_eq!(row[2..], [next.last, thousandths(ticks[0], ticks[1])]);
+}
+
+/// The best-effort threads' ticks and shares, which are near those of their weights, and their rows in the roster.
+fn best_effort(spare: &[idle::Spare], all: i64, roster: &[Vec<i64>], shown: &[Vec<i64>]) {
+    let sum = |of: fn(&idle::Spare) -> i64| spare.iter().map(of).sum::<i64>();
+    let (ticks, weights) = (sum(|spare| spare.ticks), sum(|spare| spare.weight));
+    let rows: Vec<Vec<i64>> = spare
+        .iter()
+        .map(|of| {
+            let share = thousandths(of.ticks, ticks);
+            let due = thousandths(of.weight, weights);
+            assert!(share.abs_diff(due) <= 50, "{share} for {due}");
+            vec![of.thread, of.weight, of.ticks, share, due]
+        })
+        .collect();
+    assert_eq!(rows, shown);
+    let due: Vec<i64> = rows.iter().map(|row| row[4]).collect();
+    assert_eq!(due, [250, 750]);
+    // No allotment and no lag.
+    for of in spare {
+        let row = roster.iter().find(|row| row[0] == of.thread).unwrap();
+        assert_eq!(row[1..], [0, 0, thousandths(of.ticks, all)]);
+    }
 }
 
 #[test]
@@ -407,8 +504,39 @@ fn tree() -> BTreeMap<PathBuf, Vec<u8>> {
     files
 }
 
+/// What a command prints, run at the root.
+fn printed(command: &str) -> String {
+    let mut shell = Command::new("sh");
+    let done = shell.args(["-c", command]).current_dir(root()).output();
+    let done = done.unwrap();
+    let told = String::from_utf8_lossy(&done.stderr).into_owned();
+    assert!(done.status.success(), "{command}: {told}");
+    String::from_utf8(done.stdout).unwrap()
+}
+
+/// The lines that a table's rows begin with.
+fn shown(text: &str) -> Vec<&str> {
+    text.lines()
+        .filter_map(|line| Some(line.strip_prefix("| `")?.split_once('`')?.0))
+        .collect()
+}
+
+/// These lines stand in the text, in this order.
+fn in_order(text: &str, lines: &[&str]) {
+    let mut rest = text.lines();
+    for line in lines {
+        assert!(rest.any(|next| next == *line), "{line}");
+    }
+}
+
+/// The sections of a document with their titles.
+fn sections(document: &str) -> BTreeMap<&str, &str> {
+    let parts = document.split("\n## ").skip(1);
+    parts.map(|part| part.split_once('\n').unwrap()).collect()
+}
+
 /// The commands of the page run as they stand there, one after the other, and leave nothing in the tree. What `rt` makes is there. The
-/// lines that the page shows are printed, in its order.
+/// lines that a section of the page shows are printed, in its order. README's sections about the hosts are true of the same run.
 #[test]
 fn the_page() {
     let page = fs::read_to_string(root().join("examples/host/README.md")).unwrap();
@@ -420,35 +548,55 @@ fn the_page() {
     assert_eq!(commands.len(), 5, "{commands:?}");
     let before = tree();
     assert!(before.contains_key(&root().join("examples/host/README.md")));
-    let mut printed = Vec::new();
-    for command in commands {
-        let mut shell = Command::new("sh");
-        let done = shell.args(["-c", command]).current_dir(root()).output();
-        let done = done.unwrap();
-        let told = String::from_utf8_lossy(&done.stderr).into_owned();
-        assert!(done.status.success(), "{command}: {told}");
-        printed.push(done.stdout);
-    }
-    let after = tree();
-    let differs = |path: &&PathBuf| before.get(*path) != after.get(*path);
-    let changed: Vec<&PathBuf> = before.keys().chain(after.keys()).filter(differs).collect();
-    assert!(changed.is_empty(), "{changed:?}");
+    let told: Vec<String> = commands.into_iter().map(printed).collect();
     // What both say stands there too.
     for line in SAID.lines() {
         assert!(page.contains(line), "{line}");
     }
-    let [_, c, rust, _, replayed] = &printed[..] else {
-        panic!("{}", printed.len());
+    let [_, c, rust, _, replayed] = &told[..] else {
+        panic!("{}", told.len());
     };
     assert!(c == rust && !replayed.is_empty() && c.starts_with(replayed));
-
-    let shown: Vec<&str> = page
-        .lines()
-        .filter_map(|line| Some(line.strip_prefix("| `")?.split_once('`')?.0))
-        .collect();
-    assert_eq!(shown.len(), 12, "{shown:?}");
-    let mut lines = std::str::from_utf8(c).unwrap().lines();
-    for line in shown {
-        assert!(lines.any(|printed| printed == line), "{line}");
+    let sections = sections(&page);
+    for (title, count) in [("A method change", 13), ("Reports in idle time", 16)] {
+        let shown = shown(sections[title]);
+        assert_eq!(shown.len(), count, "{shown:?}");
+        in_order(c, &shown);
     }
+    readme(c);
+    let after = tree();
+    let differs = |path: &&PathBuf| before.get(*path) != after.get(*path);
+    let changed: Vec<&PathBuf> = before.keys().chain(after.keys()).filter(differs).collect();
+    assert!(changed.is_empty(), "{changed:?}");
+}
+
+/// README's shares of readout are those that the hosts print, and the commands of its section on idle time print what stands there.
+fn readme(told: &str) {
+    let readme = fs::read_to_string(root().join("README.md")).unwrap();
+    let sections = sections(&readme);
+    let shares = told.lines().filter(|line| line.starts_with("readout "));
+    let shares: Vec<Vec<i64>> = shares.map(numbers).collect();
+    let table = sections["Raising readout during a run"];
+    for (when, line) in ["before", "during the method change", "after it"]
+        .iter()
+        .zip(&shares)
+    {
+        let row = format!("| {when}, {} | {} |", line[0], line[2]);
+        assert!(table.lines().any(|line| line == row), "{row}");
+    }
+
+    let idle = sections["Report printing in idle time"];
+    let (mut commands, mut answers) = (0, String::new());
+    for part in idle.split("\n\n").filter(|part| part.starts_with("    $ ")) {
+        let mut lines = part.lines().map(|line| &line[4..]);
+        let command = lines.next().unwrap().strip_prefix("$ ").unwrap();
+        let below: String = lines.map(|line| format!("{line}\n")).collect();
+        assert_eq!(printed(command), below, "{command}");
+        commands += 1;
+        answers += &below;
+    }
+    assert_eq!(commands, 2);
+    let shown = shown(idle);
+    assert_eq!(shown.len(), 5, "{shown:?}");
+    in_order(&answers, &shown);
 }
