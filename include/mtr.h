@@ -1,5 +1,5 @@
 /*
- * The move-to-rear list scheduler (MTR-LS), version 2.4.0, for C11 and C++11 or
+ * The move-to-rear list scheduler (MTR-LS), version 3.0.0, for C11 and C++11 or
  * later on x86-64.
  *
  * Written from the Rattle sources; do not edit. To renew it:
@@ -42,6 +42,20 @@
  * while the reservation stays the same. A change to another amount begins it
  * anew, and a thread that is changed again and again may get next to nothing.
  *
+ * Best-effort threads. Work that needs no reservation, such as the printing of
+ * reports, takes the time that reserved threads leave. mtr_admit_best_effort
+ * admits a thread with a weight of 1 to 16, in no group and outside the list, so
+ * that it takes nothing from what can be reserved. It is dispatched only if no
+ * reserved thread is runnable, for a slice of P, and gets nothing while reserved
+ * threads keep the core busy; their share guarantee holds beside it. A reserved
+ * thread that is woken while it runs waits at most for the run in hand: the next
+ * dispatch takes a reserved thread. Best-effort threads share by weight, and one
+ * saves nothing up while it is blocked. While two of them, of weights v and w,
+ * stay runnable, what each has run divided by its weight differs by at most
+ * (P + O) / v + (P + O) / w: one longest run of each. The host reports, wakes and
+ * removes them as it does the others. mtr_change refuses them with
+ * MTR_REFUSED_NO_THREAD; in the roster their lag and their allotment are 0.
+ *
  * Customers' priorities. A program that comes with a priority of 1 to 10 has the
  * reservation that mtr_priority answers, or that of the customer's own table: 1
  * to 10 rows, and every priority in exactly one. mtr_priority_under checks the
@@ -69,29 +83,31 @@
  * reply, and the library's frames; a handler needs it on top of its own, and the
  * functions below add less than 160 bytes with gcc and clang. Instructions are
  * those within the library, in the dearest accepted case that was measured: 64
- * threads in 16 groups, a full block, a table of ten rows. The copies that the
- * functions below make come on top. Both are measured on this version's code;
- * counts of instructions differ by up to 24 from one run to another.
+ * threads in 16 groups, with best-effort threads among them and without, a full
+ * block, a table of ten rows. The copies that the functions below make come on
+ * top. Both are measured on this version's code; counts of instructions differ
+ * by up to 24 from one run to another.
  *
- *     call                 stack    instructions
- *     mtr_start             2800            2716
- *     mtr_open             11376            4724
- *     mtr_close            11360            4716
- *     mtr_admit            11312            4717
- *     mtr_remove           11280            4765
- *     mtr_wake             11216            4553
- *     mtr_dispatch         11216            5292
- *     mtr_report           11328            4841
- *     mtr_change           11360            4745
- *     mtr_sound             5752            3936
- *     mtr_priority            16               8
- *     mtr_subtree           8252            6647
- *     mtr_priority_under     564            1771
- *     mtr_lag              11224            4545
- *     mtr_share            11216            4550
- *     mtr_roster           14600           31288
- *     mtr_write_block        824            3195
- *     mtr_read_block        1220            3817
+ *     call                     stack    instructions
+ *     mtr_start                 3320            3228
+ *     mtr_open                 13664            5440
+ *     mtr_close                13648            5421
+ *     mtr_admit                13600            5431
+ *     mtr_admit_best_effort    13520            5230
+ *     mtr_remove               13648            5492
+ *     mtr_wake                 13520            5265
+ *     mtr_dispatch             16544            7241
+ *     mtr_report               13648            5598
+ *     mtr_change               13648            5463
+ *     mtr_sound                 7008            4533
+ *     mtr_priority                16               8
+ *     mtr_subtree               8764            7244
+ *     mtr_priority_under         564            1771
+ *     mtr_lag                  13520            5247
+ *     mtr_share                13512            5248
+ *     mtr_roster               16368           32094
+ *     mtr_write_block            824            3192
+ *     mtr_read_block            1220            3816
  */
 #ifndef MTR_H
 #define MTR_H
@@ -154,18 +170,18 @@ extern "C" {
 MTR_STRUCT(size_t, 8, 8);
 
 /* The version as text. */
-#define MTR_VERSION_TEXT "2.4.0"
+#define MTR_VERSION_TEXT "3.0.0"
 
 /* The version; mtr_version answers that of the library. */
 
 /* Major. */
-#define MTR_VERSION_MAJOR 2
+#define MTR_VERSION_MAJOR 3
 /* Minor. */
-#define MTR_VERSION_MINOR 4
+#define MTR_VERSION_MINOR 0
 /* Patch. */
 #define MTR_VERSION_PATCH 0
 /* One number: 10000 times the major, 100 times the minor, and the patch. */
-#define MTR_VERSION 20400
+#define MTR_VERSION 30000
 
 /* Numbers of threads, groups and rows, and the parts of a block. */
 
@@ -204,6 +220,12 @@ MTR_STRUCT(size_t, 8, 8);
 #define MTR_MOST_INTERVAL 1000000
 /* The greatest O, which the greatest m allows; with any m it is m - 1. */
 #define MTR_MOST_OVERRUN 999
+/* The least weight of a best-effort thread. */
+#define MTR_LEAST_WEIGHT 1
+/* The greatest weight of a best-effort thread. */
+#define MTR_MOST_WEIGHT 16
+/* What a tick adds to the tag of a best-effort thread of weight 1. */
+#define MTR_TAG_UNIT 720720
 
 /* Limits of the meter and of priorities. */
 
@@ -231,15 +253,18 @@ typedef enum mtr_answer MTR_UNSIGNED {
      */
     MTR_REFUSED_GROUP_NUMBER = 3,
     /*
-     * The ceiling, reservation or priority, or a table's number of rows, is
-     * outside its range.
+     * The ceiling, reservation, weight or priority, or a table's number of
+     * rows, is outside its range.
      */
     MTR_REFUSED_AMOUNT = 4,
     /* The ceiling or reservation exceeds what the group has free. */
     MTR_REFUSED_NO_ROOM = 5,
     /* The group has a thread or a child. */
     MTR_REFUSED_GROUP_IN_USE = 6,
-    /* The thread's number is above 63 or not admitted. */
+    /*
+     * The thread's number is above 63 or not admitted, or the thread whose
+     * reservation is to be changed is a best-effort one.
+     */
     MTR_REFUSED_NO_THREAD = 7,
     /* The thread is already admitted. */
     MTR_REFUSED_ALREADY_ADMITTED = 8,
@@ -284,7 +309,10 @@ typedef enum mtr_reason MTR_UNSIGNED {
     MTR_REASON_TICK = 0,
     /* It blocks until it is woken. */
     MTR_REASON_BLOCK = 1,
-    /* It moves to the rear with a full allotment, less its debt. */
+    /*
+     * It moves to the rear with a full allotment, less its debt; for a
+     * best-effort thread it is as a tick.
+     */
     MTR_REASON_YIELD = 2,
     /* It leaves the list and frees its number. */
     MTR_REASON_EXIT = 3
@@ -337,7 +365,9 @@ typedef enum mtr_kind MTR_UNSIGNED {
     /* Starts anew: amount (m), ticks (P), overrun (O). */
     MTR_KIND_START = 8,
     /* Changes a thread's reservation: subject, amount (the reservation). */
-    MTR_KIND_CHANGE = 9
+    MTR_KIND_CHANGE = 9,
+    /* Admits a best-effort thread: subject, amount (the weight). */
+    MTR_KIND_BEST_EFFORT = 10
 } mtr_kind;
 
 /* What an answer says, in words. */
@@ -353,13 +383,13 @@ MTR_MUST_USE static inline const char *mtr_answer_text(mtr_answer answer)
     case MTR_REFUSED_GROUP_NUMBER:
         return "the group's number is above 15, already open or not above the parent's";
     case MTR_REFUSED_AMOUNT:
-        return "the ceiling, reservation or priority, or a table's number of rows, is outside its range";
+        return "the ceiling, reservation, weight or priority, or a table's number of rows, is outside its range";
     case MTR_REFUSED_NO_ROOM:
         return "the ceiling or reservation exceeds what the group has free";
     case MTR_REFUSED_GROUP_IN_USE:
         return "the group has a thread or a child";
     case MTR_REFUSED_NO_THREAD:
-        return "the thread's number is above 63 or not admitted";
+        return "the thread's number is above 63 or not admitted, or the thread whose reservation is to be changed is a best-effort one";
     case MTR_REFUSED_ALREADY_ADMITTED:
         return "the thread is already admitted";
     case MTR_REFUSED_THREAD_RUNNING:
@@ -397,8 +427,11 @@ MTR_MUST_USE static inline const char *mtr_answer_text(mtr_answer answer)
 /*
  * A thread. status: 0 free, 1 runnable, 2 blocked. admission and anchor are the
  * meter at admission and at the anchor; ticks and since are the thread's ticks
- * since each. In a sound state the allotment of an admitted thread is 1 to its
- * quantum.
+ * since each. An admitted thread with a reservation is a reserved one:
+ * group_or_weight is its group, and in a sound state its allotment is 1 to its
+ * quantum. One whose reservation is 0 is a best-effort thread: group_or_weight
+ * is its weight, 1 to 16, its allotment is not looked at, and tag is its start
+ * tag while it is runnable, its last finish tag while it is blocked.
  */
 typedef struct mtr_thread {
     uint64_t admission;
@@ -407,18 +440,20 @@ typedef struct mtr_thread {
     uint64_t since;
     int32_t allotment;
     uint16_t reservation;
-    uint8_t group;
+    uint8_t group_or_weight;
     uint8_t status;
+    uint64_t tag;
 } mtr_thread;
-MTR_STRUCT(mtr_thread, 40, 8);
+MTR_STRUCT(mtr_thread, 48, 8);
 MTR_FIELD(mtr_thread, admission, 0, 8);
 MTR_FIELD(mtr_thread, anchor, 8, 8);
 MTR_FIELD(mtr_thread, ticks, 16, 8);
 MTR_FIELD(mtr_thread, since, 24, 8);
 MTR_FIELD(mtr_thread, allotment, 32, 4);
 MTR_FIELD(mtr_thread, reservation, 36, 2);
-MTR_FIELD(mtr_thread, group, 38, 1);
+MTR_FIELD(mtr_thread, group_or_weight, 38, 1);
 MTR_FIELD(mtr_thread, status, 39, 1);
+MTR_FIELD(mtr_thread, tag, 40, 8);
 
 /* A group. opened: 0 closed, 1 open. */
 typedef struct mtr_group {
@@ -448,25 +483,28 @@ MTR_FIELD(mtr_settings, overrun, 6, 2);
 
 /*
  * The list is the first `count` entries of `order`, front first. running: the
- * running thread's number, or 64.
+ * running thread's number, or 64. time: the virtual time, the start tag of the
+ * last best-effort thread that was dispatched.
  */
 typedef struct mtr_scheduler {
     mtr_thread threads[64];
     uint8_t order[64];
     mtr_group groups[16];
     uint64_t meter;
+    uint64_t time;
     mtr_settings settings;
     uint32_t count;
     uint32_t running;
 } mtr_scheduler;
-MTR_STRUCT(mtr_scheduler, 2712, 8);
-MTR_FIELD(mtr_scheduler, threads, 0, 2560);
-MTR_FIELD(mtr_scheduler, order, 2560, 64);
-MTR_FIELD(mtr_scheduler, groups, 2624, 64);
-MTR_FIELD(mtr_scheduler, meter, 2688, 8);
-MTR_FIELD(mtr_scheduler, settings, 2696, 8);
-MTR_FIELD(mtr_scheduler, count, 2704, 4);
-MTR_FIELD(mtr_scheduler, running, 2708, 4);
+MTR_STRUCT(mtr_scheduler, 3232, 8);
+MTR_FIELD(mtr_scheduler, threads, 0, 3072);
+MTR_FIELD(mtr_scheduler, order, 3072, 64);
+MTR_FIELD(mtr_scheduler, groups, 3136, 64);
+MTR_FIELD(mtr_scheduler, meter, 3200, 8);
+MTR_FIELD(mtr_scheduler, time, 3208, 8);
+MTR_FIELD(mtr_scheduler, settings, 3216, 8);
+MTR_FIELD(mtr_scheduler, count, 3224, 4);
+MTR_FIELD(mtr_scheduler, running, 3228, 4);
 
 /*
  * What a call answers, with the state after it. answer: 0 accepted, or the
@@ -480,12 +518,12 @@ typedef struct mtr_reply {
     uint32_t before;
     mtr_scheduler state;
 } mtr_reply;
-MTR_STRUCT(mtr_reply, 2728, 8);
+MTR_STRUCT(mtr_reply, 3248, 8);
 MTR_FIELD(mtr_reply, answer, 0, 4);
 MTR_FIELD(mtr_reply, thread, 4, 4);
 MTR_FIELD(mtr_reply, slice, 8, 4);
 MTR_FIELD(mtr_reply, before, 12, 4);
-MTR_FIELD(mtr_reply, state, 16, 2712);
+MTR_FIELD(mtr_reply, state, 16, 3232);
 
 /*
  * The reservation of a priority. answer: 0, or the refusal; the reservation is
@@ -572,7 +610,8 @@ MTR_FIELD(mtr_share_line, share, 4, 4);
 
 /*
  * A record of the roster. state: 0 runnable, 1 blocked, 2 running. The
- * allotment is at least 1.
+ * allotment of a reserved thread is at least 1; that of a best-effort thread is
+ * shown as 0, and so is its lag.
  */
 typedef struct mtr_entry {
     uint32_t number;
@@ -633,8 +672,9 @@ MTR_FIELD(mtr_found, records, 8, 372);
 
 /*
  * What a dispatch decides: the thread, the ticks that it may run, and how many
- * threads, all blocked, stood before it. Idle: MTR_NO_THREAD, no ticks, and the
- * length of the list.
+ * reserved threads, all blocked, stood before it; before a best-effort thread
+ * that is all of them. Idle: MTR_NO_THREAD, no ticks, and the number of all
+ * threads, of either kind.
  */
 typedef struct mtr_run {
     uint32_t thread;
@@ -653,6 +693,8 @@ mtr_reply mtr_by_value_open(mtr_scheduler state, uint64_t number,
 mtr_reply mtr_by_value_close(mtr_scheduler state, uint64_t number);
 mtr_reply mtr_by_value_admit(mtr_scheduler state, uint64_t number,
     uint64_t group, uint64_t reservation);
+mtr_reply mtr_by_value_admit_best_effort(mtr_scheduler state, uint64_t number,
+    uint64_t weight);
 mtr_reply mtr_by_value_remove(mtr_scheduler state, uint64_t number);
 mtr_reply mtr_by_value_wake(mtr_scheduler state, uint64_t number);
 mtr_reply mtr_by_value_dispatch(mtr_scheduler state);
@@ -765,8 +807,31 @@ MTR_MUST_USE static inline mtr_answer mtr_admit(mtr_scheduler *state,
 }
 
 /*
- * Removes a thread that does not run: takes it off the list and frees its
- * number and reservation.
+ * Admits a best-effort thread with a weight: runnable, in no group and outside
+ * the list. It runs while no reserved thread is runnable, and shares that time
+ * with the other best-effort threads by weight.
+ *
+ * Refuses, the first that applies:
+ *   16 MTR_REFUSED_UNSOUND: the state is not sound
+ *   7 MTR_REFUSED_NO_THREAD: the number is above 63
+ *   8 MTR_REFUSED_ALREADY_ADMITTED: the thread is already admitted
+ *   4 MTR_REFUSED_AMOUNT: the weight is outside 1 to 16
+ * The state is then unchanged. Accepted, only the thread's entry changes.
+ */
+MTR_MUST_USE static inline mtr_answer
+mtr_admit_best_effort(mtr_scheduler *state, uint64_t number, uint64_t weight)
+{
+    const mtr_reply reply = mtr_by_value_admit_best_effort(*state, number,
+        weight);
+    if (reply.answer == MTR_ACCEPTED) {
+        *state = reply.state;
+    }
+    return MTR_CAST(mtr_answer, reply.answer);
+}
+
+/*
+ * Removes a thread that does not run: frees its number and reservation, and
+ * takes a reserved thread off the list.
  *
  * Refuses, the first that applies:
  *   16 MTR_REFUSED_UNSOUND: the state is not sound
@@ -786,7 +851,8 @@ MTR_MUST_USE static inline mtr_answer mtr_remove(mtr_scheduler *state,
 }
 
 /*
- * Makes a blocked thread runnable.
+ * Makes a blocked thread runnable. A best-effort thread has saved up nothing
+ * while it was blocked.
  *
  * Refuses, the first that applies:
  *   16 MTR_REFUSED_UNSOUND: the state is not sound
@@ -807,17 +873,19 @@ MTR_MUST_USE static inline mtr_answer mtr_wake(mtr_scheduler *state,
 
 /*
  * Takes the first runnable thread of the list to run for its slice, the smaller
- * of its allotment and P. Answers the thread, the slice and how many threads,
- * all blocked, stood before it; or idle, thread 64 with slice 0 and the length
- * of the list, if no thread is runnable.
+ * of its allotment and P; where none of the list is runnable, the runnable
+ * best-effort thread with the smallest tag, of equal ones the one with the
+ * lowest number, for P. Answers the thread, the slice and how many reserved
+ * threads, all blocked, stood before it; or idle, thread 64 with slice 0 and
+ * the number of all threads, if no thread is runnable.
  *
  * Refuses, the first that applies:
  *   16 MTR_REFUSED_UNSOUND: the state is not sound
  *   12 MTR_REFUSED_BUSY: a thread is running
  *   15 MTR_REFUSED_METER_FULL: the meter is at least 10000000000000
  * The state is then unchanged. Accepted, only the number of the running thread
- * changes, and nothing if idle. Accepted, *run is set; refused, it is
- * unchanged.
+ * and, of a best-effort one, the virtual time change, and nothing if idle.
+ * Accepted, *run is set; refused, it is unchanged.
  */
 MTR_MUST_USE static inline mtr_answer mtr_dispatch(mtr_scheduler *state,
     mtr_run *run)
@@ -839,7 +907,8 @@ MTR_MUST_USE static inline mtr_answer mtr_dispatch(mtr_scheduler *state,
  * that a debt is kept, and the thread moves to the rear. Reasons: 0 tick, the
  * thread stays runnable; 1 block; 2 yield, which moves to the rear and, where
  * something is left, fills the allotment; 3 exit, which frees the thread's
- * number and reservation.
+ * number and reservation. A best-effort thread has no allotment and no place:
+ * its tag grows by 720720 / weight for each tick.
  *
  * Refuses, the first that applies:
  *   16 MTR_REFUSED_UNSOUND: the state is not sound
@@ -867,7 +936,8 @@ MTR_MUST_USE static inline mtr_answer mtr_report(mtr_scheduler *state,
  *
  * Refuses, the first that applies:
  *   16 MTR_REFUSED_UNSOUND: the state is not sound
- *   7 MTR_REFUSED_NO_THREAD: the number is above 63 or not admitted
+ *   7 MTR_REFUSED_NO_THREAD: the number is above 63, or its thread is not
+ *       admitted or a best-effort one
  *   9 MTR_REFUSED_THREAD_RUNNING: the thread is running
  *   4 MTR_REFUSED_AMOUNT: the reservation is outside 1 to 1000
  *   5 MTR_REFUSED_NO_ROOM: the reservation exceeds what the thread's group
@@ -970,9 +1040,9 @@ mtr_priority_table mtr_standard_table(void);
 
 /*
  * A thread's lag: its reservation times the meter's growth since its anchor,
- * less 1000 times its own ticks since; 0 while it is blocked. The anchor is its
- * admission, its last wake, its last yield or the last change of its
- * reservation, whichever came last.
+ * less 1000 times its own ticks since; 0 while it is blocked, and 0 of a
+ * best-effort thread. The anchor is its admission, its last wake, its last
+ * yield or the last change of its reservation, whichever came last.
  *
  * Refuses, the first that applies:
  *   16 MTR_REFUSED_UNSOUND: the state is not sound
@@ -1011,7 +1081,8 @@ MTR_MUST_USE static inline mtr_answer mtr_share(const mtr_scheduler *state,
 
 /*
  * Fills a lent table with the record of every admitted thread, largest lag
- * first, equal lags by lower number.
+ * first, equal lags by lower number. A best-effort thread's lag and allotment
+ * are 0.
  *
  * Refuses, the first that applies:
  *   16 MTR_REFUSED_UNSOUND: the state is not sound
@@ -1025,7 +1096,10 @@ MTR_MUST_USE static inline mtr_answer mtr_roster(const mtr_scheduler *state,
 {
     const uint32_t answer = mtr_by_value_roster(*state, table, table_len);
     if (answer == MTR_ACCEPTED) {
-        *filled = state->count;
+        *filled = 0;
+        for (size_t i = 0; i < MTR_THREADS; i++)
+            if (state->threads[i].status != MTR_STATUS_FREE)
+                ++*filled;
     }
     return MTR_CAST(mtr_answer, answer);
 }

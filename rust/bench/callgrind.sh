@@ -5,11 +5,12 @@ set -eu
 calls=${1:-20}
 cd "$(dirname "$0")/../.."
 cargo build --quiet --offline --profile speed -p bench
-bench=target/cargo/speed/bench
+bench=${CARGO_TARGET_DIR:-target/cargo}/speed/bench
 work=$(mktemp -d)
 trap 'rm -rf "$work"' EXIT
 
-printf '%-16s%8s%10s  %-42s%8s  %-42s%s\n' call threads cheapest '' dearest '' ratio
+# Columns are parted by two spaces or more: costs.sh reads them.
+printf '%-18s%7s%10s  %-64s%8s  %-64s  %s\n' call threads cheapest '' dearest '' ratio
 for call in $("$bench" calls); do
     rm -f "$work"/*
     # Counts only within the exported function, and parts them where a case begins and where it ends.
@@ -34,7 +35,7 @@ for call in $("$bench" calls); do
         END {
             for (i = 1; i <= n; i++) {
                 t = order[i]
-                printf "%-16s%8s%10d  %-42s%8d  %-42s%.2f\n", call, t, low[t], cheap[t], high[t], dear[t], high[t] / low[t]
+                printf "%-18s%7s%10d  %-64s%8d  %-64s  %.2f\n", call, t, low[t], cheap[t], high[t], dear[t], high[t] / low[t]
             }
         }'
 done

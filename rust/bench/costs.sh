@@ -7,14 +7,13 @@ work=$(mktemp -d)
 trap 'rm -rf "$work"' EXIT
 cargo run --quiet --offline --release -p check --example stack >"$work/stack"
 rust/bench/callgrind.sh >"$work/instructions"
-# A row of callgrind.sh: call, threads, cheapest, its case, dearest, its case, ratio; the dearest is the last whole number of a row.
+# A row of callgrind.sh: call, threads, cheapest, its case, dearest, its case, ratio.
 awk '
     BEGIN { print "# call, bytes of stack, instructions of the dearest case; written by rust/bench/costs.sh" }
     FNR == 1 { file++ }
     file == 1 && FNR > 1 {
-        row = substr($0, 77)
-        split(row, word, " ")
-        if (word[1] + 0 > most[$1]) most[$1] = word[1] + 0
+        split($0, column, /  +/)
+        if (column[5] + 0 > most[column[1]]) most[column[1]] = column[5] + 0
     }
     file == 2 { print $1, $2, most[$1] }' "$work/instructions" "$work/stack" >"$work/costs"
 mv "$work/costs" rust/boundary/costs.txt

@@ -15,7 +15,8 @@ use Rattle.base.specs.Lists.{member, sumBelow}
 use Rattle.base.proofs.Bools.{cases, both, is, holds, clash}
 use Rattle.base.proofs.Lists.{sumOf}
 use Rattle.base.proofs.Sums.{only, sum-same, sum-le, sum-none, sum-add, sum-past, sum-only, sumOf-below}
-use Rattle.fair.specs.Tags.{finishTag, startTag, timeAfter}
+use Rattle.fair.specs.Tags.{finishTag, startTag}
+use Rattle.fair.proofs.Dispatch.{time-moves, time-stays}
 use Rattle.scheduler.specs.declared.Thread.{Thread}
 use Rattle.scheduler.specs.declared.Scheduler.{Scheduler}
 use Rattle.scheduler.specs.State.{noThread, isAdmitted, isBlocked, hasReservation, weightOf, threadAt, admittedAt, runnableAt}
@@ -176,13 +177,14 @@ effort-allotment s n e = rw (effort-none s n e)
 -- A dispatch of a best-effort thread sets it to that thread's tag,
 pub effort-time : (s : Scheduler) → refusal dispatch s ≡ 0 → T (effortAt s ((step dispatch s) .thread))
     → (effect dispatch s) .time ≡ tagAt s ((step dispatch s) .thread)
-unfolding effect withRun timeWith timeAfter
-effort-time s e u = rw (thread-is s e, is (effortAt s (chosen s)) (effort-chosen s e u))
+unfolding effect withRun timeWith
+effort-time s e u =
+    rw (thread-is s e, is (effortAt s (chosen s)) (effort-chosen s e u)) (time-moves (tagAt s (chosen s)) (s .time))
 
 -- one of a reserved thread or an idle one leaves it,
 other-time : (s : Scheduler) → effortAt s (chosen s) ≡ false → (effect dispatch s) .time ≡ s .time
-unfolding effect withRun timeWith timeAfter
-other-time s e = rw e
+unfolding effect withRun timeWith
+other-time s e = rw e (time-stays (tagAt s (chosen s)) (s .time))
 
 pub reserved-time : (s : Scheduler) → refusal dispatch s ≡ 0 → T (reservedAt s ((step dispatch s) .thread))
     → (effect dispatch s) .time ≡ s .time

@@ -1,7 +1,7 @@
 -- RULE 2, its list facts as theorems about `step` and `effect`: mutual order, place and allotment, wake, change, idle, the count before the
 -- chosen thread; and RULE 4.2, where the anchor is set. Each goes by the facts of a sound state and the laws of the one list it changes.
 -- Best-effort threads stand outside the list: what is said of a place or an allotment is said of reserved threads. Their own laws are in
--- Effort.
+-- EffortRule.
 use Prim.Native.Nat.{ℕ, _+_, _-_, _*_, min, _≤_, _<_}
 use mathlib.Core.Path.{_≡_, refl, sym, ap, subst, _∙_}
 use mathlib.Core.List.{[], _∷_, _++_}

@@ -2,7 +2,7 @@
 -- a wake and after a change, the chosen thread, the count before it, the most that a report may use; and a thread's allotment and slice
 -- after a thread is replaced, charged, woken or changed, read off the table.
 use Prim.Native.Nat.{ℕ, _+_, _-_, _*_, min, _≤_, _<_}
-use mathlib.Core.Path.{_≡_, refl, ap, _∙_}
+use mathlib.Core.Path.{_≡_, refl, sym, ap, subst, _∙_}
 use mathlib.Core.Bool.{true, false, not, cond}
 use native.Mathlib.Nat.{le-refl, mul-pos, mul-le-mul-right, min-le-left, min-le-right}
 use native.Mathlib.Omega.{arith}
@@ -10,13 +10,13 @@ use lib.ListN.{length}
 use lib.Dec.{T, T-not, eqb}
 use borrow.Author.Tests.{eqb-true, eqb-false, eq-eqb, ne-eqb}
 use Rattle.base.specs.Lists.{member, passed}
-use Rattle.base.proofs.Bools.{by, and-l, and-r, clash}
+use Rattle.base.proofs.Bools.{by, cases, and-l, and-r, clash}
 use Rattle.base.proofs.Lists.{everyOf-at, first-found, first-none, passed-all}
 use Rattle.scheduler.specs.declared.Thread.{Thread}
 use Rattle.scheduler.specs.declared.Scheduler.{Scheduler}
 use Rattle.quota.specs.Quota.{natOf}
-use Rattle.fair.specs.Tags.{firstOr, counted}
 use Rattle.fair.proofs.Choice.{Best, choose-best}
+use Rattle.fair.proofs.Dispatch.{listed-first, effort-else, counted-some, counted-idle}
 use Rattle.quota.proofs.Debt.{cut-nat}
 use Rattle.scheduler.specs.State.{hasReservation, effortAt, tagAt, threadAt, admittedAt, runnableAt, reservationAt, allotmentAt}
 use Rattle.scheduler.specs.State.{quantum, listed, sliceAt, usedMost, reservedAt, chargeMost, withThread, withList}
@@ -54,12 +54,12 @@ changed-listed n d s = refl
 
 -- the chosen thread comes from the list, if one there is runnable, and else from the best-effort ones
 pub from-list : (s : Scheduler) → (firstListed s ≡ 64 → ⊥) → chosen s ≡ firstListed s
-unfolding chosen firstOr
-from-list s ne = rw (ne-eqb (firstListed s) 64 ne)
+unfolding chosen
+from-list s ne = listed-first (firstListed s) (firstEffort s) ne
 
 pub from-efforts : (s : Scheduler) → firstListed s ≡ 64 → chosen s ≡ firstEffort s
-unfolding chosen firstOr
-from-efforts s e = rw (eq-eqb (firstListed s) 64 e)
+unfolding chosen
+from-efforts s e = effort-else (firstListed s) (firstEffort s) e
 
 -- the first runnable one of the list stands in it; the choice of the best-effort ones is one of them, with the least tag
 pub listed-runnable : (s : Scheduler) → (firstListed s ≡ 64 → ⊥) → T (member (firstListed s) (listed s)) × T (runnableAt s (firstListed s))
@@ -80,11 +80,10 @@ effort-runnable s ne =
 -- a property of the chosen thread goes by where it comes from
 pub choice : (s : Scheduler) (P : ℕ → Type 0) → (firstListed s ≡ 64 → P (firstEffort s)) → ((firstListed s ≡ 64 → ⊥) → P (firstListed s))
     → P (chosen s)
-unfolding chosen firstOr
 choice s P a b =
-    by (λ d. P (cond d (firstEffort s) (firstListed s))) (eqb (firstListed s) 64)
-    (λ e. a (eqb-true (firstListed s) 64 e))
-    (λ e. b (eqb-false (firstListed s) 64 e))
+    cases (eqb (firstListed s) 64)
+    (λ e. let z = eqb-true (firstListed s) 64 e in subst P (sym (from-efforts s z)) (a z))
+    (λ e. let z = eqb-false (firstListed s) 64 e in subst P (sym (from-list s z)) (b z))
 
 -- the chosen thread is admitted and runnable
 pub chosen-runnable : (s : Scheduler) → Facts s → (chosen s ≡ 64 → ⊥) → T (admittedAt s (chosen s)) × T (runnableAt s (chosen s))
@@ -114,12 +113,12 @@ one-kind s n r e = clash (hasReservation (threadAt s n)) (reserved-has s n r) (e
 
 -- the count where a thread is chosen, and where none is
 pub count-some : (s : Scheduler) → (chosen s ≡ 64 → ⊥) → passedOver s ≡ passed (runnableAt s) (listed s)
-unfolding passedOver counted
-count-some s ne = rw (ne-eqb (chosen s) 64 ne) (omega arith)
+unfolding passedOver
+count-some s ne = counted-some (chosen s) (passed (runnableAt s) (listed s)) (efforts s) ne
 
 pub count-idle : (s : Scheduler) → chosen s ≡ 64 → passedOver s ≡ passed (runnableAt s) (listed s) + efforts s
-unfolding passedOver counted
-count-idle s e = rw (eq-eqb (chosen s) 64 e)
+unfolding passedOver
+count-idle s e = counted-idle (chosen s) (passed (runnableAt s) (listed s)) (efforts s) e
 
 pub count-all : (s : Scheduler) → Facts s → firstListed s ≡ 64 → passed (runnableAt s) (listed s) ≡ length (listed s)
 unfolding firstListed

@@ -7,15 +7,17 @@ use model::rule::{Scheduler, BLOCK, EXIT, TICK, YIELD};
 use mtr::numbers;
 
 use crate::states::{
-    above_groups, block_first, even_table, records, reservation, running, sloped, threads, worn,
+    above_groups, block_first, even_table, left_over, records, reservation, running, sloped,
+    threads, weight, worn, Shape,
 };
 
 /// The calls by their exported names without `mtr_by_value_`.
-pub const CALLS: [&str; 18] = [
+pub const CALLS: [&str; 19] = [
     "start",
     "open",
     "close",
     "admit",
+    "admit_best_effort",
     "remove",
     "wake",
     "dispatch",
@@ -69,19 +71,21 @@ fn case(threads: String, name: String, call: impl Fn() -> u32 + 'static) -> Case
     }
 }
 
-/// A case of a call on a state.
+/// A case of a call on a state of this shape.
 fn on(
     s: Scheduler,
-    threads: u64,
-    deep: bool,
+    of: Shape,
     name: &str,
     call: impl Fn(numbers::Scheduler) -> u32 + 'static,
 ) -> Case {
     let state = to_library(&s);
-    let tree = if deep { "16 groups" } else { "1 group" };
-    case(threads.to_string(), format!("{name}, {tree}"), move || {
-        call(*black_box(&state))
-    })
+    let tree = if of.deep { "16 groups" } else { "1 group" };
+    let kinds = if of.mixed { ", both kinds" } else { "" };
+    case(
+        of.n.to_string(),
+        format!("{name}, {tree}{kinds}"),
+        move || call(*black_box(&state)),
+    )
 }
 
 fn cases(call: &str) -> Vec<Case> {
@@ -97,27 +101,54 @@ fn cases(call: &str) -> Vec<Case> {
         "read_block" => blocks(false),
         _ => {
             let mut cases = Vec::new();
-            for deep in [false, true] {
-                for n in [0, 1, 8, 64] {
-                    match call {
-                        "open" => open(n, deep, &mut cases),
-                        "close" => close(n, deep, &mut cases),
-                        "admit" => admit(n, deep, &mut cases),
-                        "remove" => remove(n, deep, &mut cases),
-                        "wake" => wake(n, deep, &mut cases),
-                        "dispatch" => dispatch(n, deep, &mut cases),
-                        "report" => report(n, deep, &mut cases),
-                        "change" => change(n, deep, &mut cases),
-                        "sound" => sound(n, deep, &mut cases),
-                        "subtree" => subtree(n, deep, &mut cases),
-                        "roster" => roster(n, deep, &mut cases),
-                        _ => account(n, deep, call == "lag", &mut cases),
-                    }
+            for of in shapes() {
+                match call {
+                    "open" => open(of, &mut cases),
+                    "close" => close(of, &mut cases),
+                    "admit" => admit(of, &mut cases),
+                    "admit_best_effort" => admit_best_effort(of, &mut cases),
+                    "remove" => remove(of, &mut cases),
+                    "wake" => wake(of, &mut cases),
+                    "dispatch" => dispatch(of, &mut cases),
+                    "report" => report(of, &mut cases),
+                    "change" => change(of, &mut cases),
+                    "sound" => sound(of, &mut cases),
+                    "subtree" => subtree(of, &mut cases),
+                    "roster" => roster(of, &mut cases),
+                    _ => account(of, call == "lag", &mut cases),
                 }
             }
             cases
         }
     }
+}
+
+/// The states' shapes: half of 8 and of 64 threads are best-effort ones in some.
+fn shapes() -> Vec<Shape> {
+    let mut all = Vec::new();
+    for deep in [false, true] {
+        for n in [0, 1, 8, 64] {
+            for mixed in [false, true] {
+                if !mixed || n > 1 {
+                    all.push(Shape { n, deep, mixed });
+                }
+            }
+        }
+    }
+    all
+}
+
+/// A thread at each end of those of either kind, and what it is called.
+fn ends(of: Shape) -> Vec<(&'static str, u64)> {
+    let mut all = vec![("front", 0)];
+    if of.reserved() > 1 {
+        all.push(("rear", of.reserved() - 1));
+    }
+    if of.mixed {
+        all.push(("first best-effort", of.reserved()));
+        all.push(("last best-effort", of.n - 1));
+    }
+    all
 }
 
 /// Tables of rows of one size, asked for the priority of the first row and of
@@ -142,84 +173,101 @@ fn tables() -> Vec<Case> {
     cases
 }
 
-fn open(n: u64, deep: bool, cases: &mut Vec<Case>) {
-    let parent = if deep { 14 } else { 0 };
-    let s = above_groups(n, parent);
-    cases.push(on(s, n, deep, "the last group", move |s| {
+fn open(of: Shape, cases: &mut Vec<Case>) {
+    let parent = if of.deep { 14 } else { 0 };
+    let s = above_groups(of, parent);
+    cases.push(on(s, of, "the last group", move |s| {
         numbers::open(s, 15, parent, 1).answer
     }));
 }
 
-fn close(n: u64, deep: bool, cases: &mut Vec<Case>) {
-    let number = if deep { 15 } else { 1 };
-    let s = above_groups(n, number);
-    cases.push(on(s, n, deep, "the last group", move |s| {
+fn close(of: Shape, cases: &mut Vec<Case>) {
+    let number = if of.deep { 15 } else { 1 };
+    let s = above_groups(of, number);
+    cases.push(on(s, of, "the last group", move |s| {
         numbers::close(s, number).answer
     }));
 }
 
-/// The last of n threads is admitted.
-fn admit(n: u64, deep: bool, cases: &mut Vec<Case>) {
-    if n == 0 {
+/// A state in which the last of n threads is not admitted, and its number.
+fn before_last(of: Shape) -> Option<(Scheduler, u64)> {
+    let last = of.n.checked_sub(1)?;
+    let mut s = threads(of);
+    assert_eq!(s.remove(last), 0);
+    Some((s, last))
+}
+
+fn admit(of: Shape, cases: &mut Vec<Case>) {
+    let Some((s, last)) = before_last(of) else {
         return;
-    }
-    let mut s = threads(n, deep);
-    assert_eq!(s.remove(n - 1), 0);
-    let group = if deep && n > 1 { 15 } else { 0 };
-    cases.push(on(s, n, deep, "the last", move |s| {
-        numbers::admit(s, n - 1, group, reservation(n)).answer
+    };
+    let group = if of.deep && of.n > 1 { 15 } else { 0 };
+    cases.push(on(s, of, "the last", move |s| {
+        numbers::admit(s, last, group, reservation(of.n)).answer
     }));
 }
 
-fn remove(n: u64, deep: bool, cases: &mut Vec<Case>) {
-    if n == 0 {
+fn admit_best_effort(of: Shape, cases: &mut Vec<Case>) {
+    let Some((s, last)) = before_last(of) else {
+        return;
+    };
+    cases.push(on(s, of, "the last", move |s| {
+        numbers::admit_best_effort(s, last, weight(last)).answer
+    }));
+}
+
+fn remove(of: Shape, cases: &mut Vec<Case>) {
+    if of.n == 0 {
         return;
     }
-    for (name, number) in [("front", 0), ("rear", n - 1)] {
-        cases.push(on(threads(n, deep), n, deep, name, move |s| {
+    for (name, number) in ends(of) {
+        cases.push(on(threads(of), of, name, move |s| {
             numbers::remove(s, number).answer
         }));
     }
 }
 
-fn wake(n: u64, deep: bool, cases: &mut Vec<Case>) {
-    if n == 0 {
+fn wake(of: Shape, cases: &mut Vec<Case>) {
+    if of.n == 0 {
         return;
     }
-    let mut s = threads(n, deep);
-    block_first(&mut s, n);
-    for (name, number) in [("front", 0), ("rear", n - 1)] {
-        cases.push(on(s, n, deep, name, move |s| {
-            numbers::wake(s, number).answer
-        }));
+    let mut s = threads(of);
+    block_first(&mut s, of.n);
+    for (name, number) in ends(of) {
+        cases.push(on(s, of, name, move |s| numbers::wake(s, number).answer));
     }
 }
 
-fn dispatch(n: u64, deep: bool, cases: &mut Vec<Case>) {
-    let mut s = threads(n, deep);
-    if n > 0 {
-        cases.push(on(s, n, deep, "first runnable", |s| {
-            numbers::dispatch(s).answer
-        }));
+fn dispatch(of: Shape, cases: &mut Vec<Case>) {
+    let mut take = |name: &str, s: Scheduler| {
+        cases.push(on(s, of, name, |s| numbers::dispatch(s).answer));
+    };
+    let mut s = threads(of);
+    if of.n > 0 {
+        take("first runnable", s);
     }
-    if n > 1 {
-        block_first(&mut s, n - 1);
-        cases.push(on(s, n, deep, "last runnable", |s| {
-            numbers::dispatch(s).answer
-        }));
+    if of.n > 1 {
+        block_first(&mut s, of.reserved() - 1);
+        take("last runnable of the list", s);
     }
-    let mut s = threads(n, deep);
-    block_first(&mut s, n);
-    cases.push(on(s, n, deep, "idle", |s| numbers::dispatch(s).answer));
+    if of.mixed {
+        let mut s = threads(of);
+        block_first(&mut s, of.reserved());
+        take("the first of the best-effort ones", s);
+        take("the last of the best-effort ones", left_over(of));
+    }
+    let mut s = threads(of);
+    block_first(&mut s, of.n);
+    take("idle", s);
 }
 
-fn report(n: u64, deep: bool, cases: &mut Vec<Case>) {
-    if n == 0 {
+fn report(of: Shape, cases: &mut Vec<Case>) {
+    if of.n == 0 {
         return;
     }
-    for (place, at) in [("front", 0), ("rear", n - 1)] {
-        let mut s = running(n, deep, at);
-        let quantum = reservation(n) as u32 * s.settings.thousandth as u32;
+    for (place, at) in ends(of) {
+        let mut s = running(of, at);
+        let quantum = reservation(of.n) as u32 * s.settings.thousandth as u32;
         // The whole quantum fits one slice.
         s.settings.interval = quantum;
         let whole = quantum as u64;
@@ -234,7 +282,7 @@ fn report(n: u64, deep: bool, cases: &mut Vec<Case>) {
             ("exit", EXIT, 1),
         ] {
             let name = format!("{name} of the {place}");
-            cases.push(on(s, n, deep, &name, move |s| {
+            cases.push(on(s, of, &name, move |s| {
                 numbers::report(s, reason, used).answer
             }));
         }
@@ -244,72 +292,81 @@ fn report(n: u64, deep: bool, cases: &mut Vec<Case>) {
         let most = whole + overrun as u64;
         for (name, reason) in [("in debt", TICK), ("block, in debt", BLOCK)] {
             let name = format!("{name} of the {place}");
-            cases.push(on(s, n, deep, &name, move |s| {
+            cases.push(on(s, of, &name, move |s| {
                 numbers::report(s, reason, most).answer
             }));
-        }
-        if n == 1 {
-            break;
         }
     }
 }
 
 /// A change to less cuts the allotment; one to the same amount keeps it.
-fn change(n: u64, deep: bool, cases: &mut Vec<Case>) {
-    if n == 0 {
+fn change(of: Shape, cases: &mut Vec<Case>) {
+    if of.n == 0 {
         return;
     }
-    for (place, number) in [("front", 0), ("rear", n - 1)] {
-        for (name, amount) in [("less", reservation(n) - 1), ("the same", reservation(n))] {
+    let own = reservation(of.n);
+    for (place, number) in ends(of) {
+        // A best-effort thread has no reservation.
+        if number >= of.reserved() {
+            continue;
+        }
+        for (name, amount) in [("less", own - 1), ("the same", own)] {
             let name = format!("{name} for the {place}");
-            cases.push(on(threads(n, deep), n, deep, &name, move |s| {
+            cases.push(on(threads(of), of, &name, move |s| {
                 numbers::change(s, number, amount).answer
             }));
-        }
-        if n == 1 {
-            break;
         }
     }
 }
 
-fn sound(n: u64, deep: bool, cases: &mut Vec<Case>) {
-    cases.push(on(threads(n, deep), n, deep, "all tested", |s| {
+fn sound(of: Shape, cases: &mut Vec<Case>) {
+    cases.push(on(threads(of), of, "all tested", |s| {
         !numbers::sound(s) as u32
     }));
 }
 
-fn subtree(n: u64, deep: bool, cases: &mut Vec<Case>) {
-    for group in if deep { vec![0, 15] } else { vec![0] } {
+fn subtree(of: Shape, cases: &mut Vec<Case>) {
+    for group in if of.deep { vec![0, 15] } else { vec![0] } {
         let name = format!("group {group}");
-        cases.push(on(threads(n, deep), n, deep, &name, move |s| {
+        cases.push(on(threads(of), of, &name, move |s| {
             numbers::subtree(s, group).answer
         }));
     }
 }
 
-fn account(n: u64, deep: bool, lag: bool, cases: &mut Vec<Case>) {
-    if n == 0 {
+fn account(of: Shape, lag: bool, cases: &mut Vec<Case>) {
+    if of.n == 0 {
         return;
     }
-    let call = move |s| {
-        if lag {
-            numbers::lag(s, n - 1).answer as u32
+    for number in [of.reserved() - 1, of.n - 1] {
+        let call = move |s| {
+            if lag {
+                numbers::lag(s, number).answer as u32
+            } else {
+                numbers::share(s, number).answer
+            }
+        };
+        let kind = if number < of.reserved() {
+            ""
         } else {
-            numbers::share(s, n - 1).answer
+            ", best-effort"
+        };
+        cases.push(on(worn(of), of, &format!("after some runs{kind}"), call));
+        let mut s = threads(of);
+        block_first(&mut s, of.n);
+        cases.push(on(s, of, &format!("blocked, no growth{kind}"), call));
+        if !of.mixed {
+            break;
         }
-    };
-    cases.push(on(worn(n, deep), n, deep, "after some runs", call));
-    let mut s = threads(n, deep);
-    block_first(&mut s, n);
-    cases.push(on(s, n, deep, "blocked, no growth", call));
+    }
 }
 
-fn roster(n: u64, deep: bool, cases: &mut Vec<Case>) {
+fn roster(of: Shape, cases: &mut Vec<Case>) {
     let call = |s| numbers::roster(s, black_box(&mut [numbers::Entry::default(); 64]));
-    cases.push(on(worn(n, deep), n, deep, "after some runs", call));
-    cases.push(on(threads(n, deep), n, deep, "equal lags", call));
-    cases.push(on(sloped(n, deep, true), n, deep, "falling lags", call));
-    cases.push(on(sloped(n, deep, false), n, deep, "rising lags", call));
+    cases.push(on(worn(of), of, "after some runs", call));
+    cases.push(on(threads(of), of, "equal lags", call));
+    cases.push(on(sloped(of, true), of, "falling lags", call));
+    cases.push(on(sloped(of, false), of, "rising lags", call));
 }
 
 fn blocks(write: bool) -> Vec<Case> {

@@ -10,15 +10,57 @@ pub fn reservation(n: u64) -> u64 {
     (960 / n.max(1)).min(480)
 }
 
-/// Default settings and n runnable threads 0 to n − 1, listed in this order.
-/// With a deep tree all 16 groups are open, each below the one before, and
-/// every other thread is in the last.
-pub fn threads(n: u64, deep: bool) -> Scheduler {
-    let mut s = chain(if deep { 15 } else { 0 }, 480);
-    for number in 0..n {
-        let group = if deep && number % 2 == 1 { 15 } else { 0 };
-        assert_eq!(s.admit(number, group, reservation(n)), 0);
+/// The threads 0 to n − 1 of a state, and where they stand.
+#[derive(Clone, Copy)]
+pub struct Shape {
+    pub n: u64,
+    /// All 16 groups are open, each below the one before, and every other
+    /// reserved thread is in the last; else all are in group 0.
+    pub deep: bool,
+    /// The upper half of the threads are best-effort ones.
+    pub mixed: bool,
+}
+
+impl Shape {
+    /// n reserved threads in group 0.
+    pub fn plain(n: u64) -> Shape {
+        Shape {
+            n,
+            deep: false,
+            mixed: false,
+        }
     }
+
+    /// How many of the threads are reserved.
+    pub fn reserved(self) -> u64 {
+        if self.mixed {
+            self.n / 2
+        } else {
+            self.n
+        }
+    }
+
+    /// Admits the threads.
+    fn admit(self, s: &mut Scheduler) {
+        for number in 0..self.reserved() {
+            let group = if self.deep && number % 2 == 1 { 15 } else { 0 };
+            assert_eq!(s.admit(number, group, reservation(self.n)), 0);
+        }
+        for number in self.reserved()..self.n {
+            assert_eq!(s.admit_best_effort(number, weight(number)), 0);
+        }
+    }
+}
+
+/// The weight of a best-effort thread.
+pub fn weight(number: u64) -> u64 {
+    1 + number % 16
+}
+
+/// Default settings and runnable threads, the reserved ones listed by number.
+pub fn threads(of: Shape) -> Scheduler {
+    let mut s = chain(if of.deep { 15 } else { 0 }, 480);
+    of.admit(&mut s);
     s
 }
 
@@ -31,16 +73,15 @@ fn chain(last: u64, ceiling: u64) -> Scheduler {
     s
 }
 
-/// n threads in group 0 above a chain of empty groups 1 to `last`.
-pub fn above_groups(n: u64, last: u64) -> Scheduler {
+/// Threads in group 0 above a chain of empty groups 1 to `last`.
+pub fn above_groups(of: Shape, last: u64) -> Scheduler {
     let mut s = chain(last, 20);
-    for number in 0..n {
-        assert_eq!(s.admit(number, 0, reservation(n)), 0);
-    }
+    Shape { deep: false, ..of }.admit(&mut s);
     s
 }
 
-/// The first `blocked` threads of the list block.
+/// The first threads that a dispatch takes block: those of the list, then the
+/// best-effort ones by number.
 pub fn block_first(s: &mut Scheduler, blocked: u64) {
     for _ in 0..blocked {
         s.dispatch();
@@ -48,21 +89,35 @@ pub fn block_first(s: &mut Scheduler, blocked: u64) {
     }
 }
 
-/// n threads of which the one at the place in the list runs.
-pub fn running(n: u64, deep: bool, place: u64) -> Scheduler {
-    let mut s = threads(n, deep);
-    block_first(&mut s, place);
-    assert_eq!(s.dispatch().thread as u64, place);
-    for number in 0..place {
+/// Threads of which this one runs.
+pub fn running(of: Shape, thread: u64) -> Scheduler {
+    let mut s = threads(of);
+    block_first(&mut s, thread);
+    assert_eq!(s.dispatch().thread as u64, thread);
+    for number in 0..thread {
         assert_eq!(s.wake(number), 0);
     }
     s
 }
 
-/// n threads that have run for a while, so that their lags differ.
-pub fn worn(n: u64, deep: bool) -> Scheduler {
-    let mut s = threads(n, deep);
-    for round in 0..3 * n {
+/// The reserved threads are blocked and the best-effort ones runnable, with tags
+/// that fall with the number: the last goes first.
+pub fn left_over(of: Shape) -> Scheduler {
+    let mut s = threads(of);
+    block_first(&mut s, of.reserved());
+    s.meter = 1;
+    for number in of.reserved()..of.n {
+        s.threads[number as usize].tag = of.n - number;
+    }
+    assert!(s.sound());
+    s
+}
+
+/// Threads that have run for a while, so that the lags of the reserved ones
+/// differ.
+pub fn worn(of: Shape) -> Scheduler {
+    let mut s = threads(of);
+    for round in 0..3 * of.n {
         let reply = s.dispatch();
         let used = (reply.slice as u64).min(300 + 97 * (round % 11));
         assert_eq!(s.report(if round % 3 == 0 { 2 } else { TICK }, used), 0);
@@ -70,12 +125,13 @@ pub fn worn(n: u64, deep: bool) -> Scheduler {
     s
 }
 
-/// n threads whose lags fall or rise with the number.
-pub fn sloped(n: u64, deep: bool, falling: bool) -> Scheduler {
-    let mut s = threads(n, deep);
+/// Threads whose lags fall or rise with the number, those of best-effort ones
+/// aside, which are 0.
+pub fn sloped(of: Shape, falling: bool) -> Scheduler {
+    let mut s = threads(of);
     s.meter = METER_LIMIT;
-    for k in 0..n {
-        let behind = if falling { n - k } else { k + 1 };
+    for k in 0..of.n {
+        let behind = if falling { of.n - k } else { k + 1 };
         let t = &mut s.threads[k as usize];
         t.anchor = s.meter - 1_000_000 * behind;
         t.ticks = s.meter / 64;
@@ -109,7 +165,7 @@ pub fn even_table(count: usize, down: bool) -> Table {
 pub fn records() -> [Record; RECORDS] {
     std::array::from_fn(|i| {
         let i = i as u8;
-        let kind = 1 + i % 9;
+        let kind = 1 + i % 10;
         let uses = fields(kind).unwrap_or_default();
         Record {
             kind,

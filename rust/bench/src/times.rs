@@ -12,7 +12,9 @@ use mtr::{numbers, raw};
 
 use crate::plain;
 use crate::rounds::{measure, Side};
-use crate::states::{even_table, records, reservation, sloped, threads, worn};
+use crate::states::{
+    block_first, even_table, records, reservation, sloped, threads, weight, worn, Shape,
+};
 
 fn line(name: &str, threads: &str, sides: Vec<Side>) {
     let by_value = sides.len() > 2;
@@ -20,13 +22,28 @@ fn line(name: &str, threads: &str, sides: Vec<Side>) {
     let nanos = |k: usize| format!("{:.0} ns", times.nanos[k]);
     let ratio = |k: usize| format!("{:.2}", times.ratios[k]);
     println!(
-        "{name:<26} {threads:>3} {:>9} {:>9} {:>9}   {:<10} {}",
+        "{name:<30} {threads:>5} {:>9} {:>9} {:>9}   {:<10} {}",
         nanos(0),
         nanos(1),
         if by_value { nanos(2) } else { String::new() },
         ratio(0),
         if by_value { ratio(1) } else { String::new() }
     );
+}
+
+/// How many threads of a shape there are, reserved and best-effort ones.
+fn counted(of: Shape) -> String {
+    match of.mixed {
+        true => format!("{}+{}", of.reserved(), of.n - of.reserved()),
+        false => of.n.to_string(),
+    }
+}
+
+/// Its reserved threads are blocked, so that the best-effort ones run.
+fn left_over(of: Shape) -> Scheduler {
+    let mut s = threads(of);
+    block_first(&mut s, of.reserved());
+    s
 }
 
 /// The three sides of a row of calls, each on a state of its own.
@@ -44,11 +61,11 @@ fn sides<'a>(
     ]
 }
 
-/// Each report uses the whole slice, so that the quantum ends and the thread
-/// moves to the rear (with 1 thread at every third).
-fn dispatch_report(n: u64) {
+/// Each report uses the whole slice. A reserved thread's quantum ends with it,
+/// and the thread moves to the rear (with 1 thread at every third).
+fn pair(name: &str, of: Shape, s: &Scheduler) {
     let sides = sides(
-        &threads(n, false),
+        s,
         |s| {
             let reply = numbers::dispatch(*s);
             let used = reply.slice as u64;
@@ -63,15 +80,55 @@ fn dispatch_report(n: u64) {
             *s = by_value::report(next, TICK, reply.slice as u64).1;
         },
     );
-    line("dispatch + report", &n.to_string(), sides);
+    line(name, &counted(of), sides);
 }
 
-/// The wake alone: before each the thread is blocked by a write to its status.
-fn wake(n: u64) {
-    let number = n - 1;
+/// Reserved threads run.
+fn dispatch_report(of: Shape) {
+    pair("dispatch + report", of, &threads(of));
+}
+
+/// A reserved thread is dispatched and blocks, a best-effort one uses its slice,
+/// and the first is woken. The other reserved ones are blocked.
+fn in_turn(of: Shape) {
+    let mut s = left_over(of);
+    let front = s.order[0] as u64;
+    assert_eq!(s.wake(front), 0);
+    let sides = sides(
+        &s,
+        move |s| {
+            let reply = numbers::dispatch(*s);
+            let reply = numbers::report(reply.state, BLOCK, 1);
+            let reply = numbers::dispatch(reply.state);
+            let used = reply.slice as u64;
+            let reply = numbers::report(reply.state, TICK, used);
+            *s = numbers::wake(reply.state, front).state;
+        },
+        move |s| {
+            s.dispatch();
+            s.report(BLOCK, 1);
+            let reply = s.dispatch();
+            s.report(TICK, reply.slice as u64);
+            s.wake(front);
+        },
+        move |s| {
+            let (_, next) = by_value::dispatch(*s);
+            let (_, next) = by_value::report(next, BLOCK, 1);
+            let (reply, next) = by_value::dispatch(next);
+            let (_, next) = by_value::report(next, TICK, reply.slice as u64);
+            *s = by_value::wake(next, front).1;
+        },
+    );
+    line("one of each kind in turn", &counted(of), sides);
+}
+
+/// The wake alone: before each the last thread is blocked by a write to its
+/// status.
+fn wake(of: Shape) {
+    let number = of.n - 1;
     let k = number as usize;
     let sides = sides(
-        &threads(n, false),
+        &threads(of),
         move |s| {
             s.threads[k].status = BLOCKED;
             *s = numbers::wake(*s, number).state;
@@ -85,13 +142,15 @@ fn wake(n: u64) {
             *s = by_value::wake(*s, number).1;
         },
     );
-    line("wake", &n.to_string(), sides);
+    line("wake", &counted(of), sides);
 }
 
-/// The first thread is dispatched, uses a tick, blocks and is woken.
-fn dispatch_block_wake(n: u64) {
+/// The first thread is dispatched, uses a tick, blocks and is woken: where there
+/// are best-effort threads, one of them.
+fn dispatch_block_wake(of: Shape) {
+    let s = if of.mixed { left_over(of) } else { threads(of) };
     let sides = sides(
-        &threads(n, false),
+        &s,
         |s| {
             let reply = numbers::dispatch(*s);
             let thread = reply.thread as u64;
@@ -109,15 +168,15 @@ fn dispatch_block_wake(n: u64) {
             *s = by_value::wake(next, reply.thread as u64).1;
         },
     );
-    line("dispatch + block + wake", &n.to_string(), sides);
+    line("dispatch + block + wake", &counted(of), sides);
 }
 
 /// The last of n threads is admitted and removed.
-fn admit_remove(n: u64) {
-    let number = n - 1;
-    let mut s = threads(n, false);
+fn admit_remove(of: Shape) {
+    let number = of.n - 1;
+    let mut s = threads(of);
     assert_eq!(s.remove(number), 0);
-    let amount = reservation(n);
+    let amount = reservation(of.n);
     let sides = sides(
         &s,
         move |s| {
@@ -133,15 +192,39 @@ fn admit_remove(n: u64) {
             *s = by_value::remove(next, number).1;
         },
     );
-    line("admit + remove", &n.to_string(), sides);
+    line("admit + remove", &counted(of), sides);
 }
 
-/// The last of n threads is given one thousandth less and what it had.
-fn change(n: u64) {
-    let number = n - 1;
-    let amount = reservation(n);
+/// The last best-effort thread is admitted and removed.
+fn admit_best_effort_remove(of: Shape) {
+    let number = of.n - 1;
+    let mut s = threads(of);
+    assert_eq!(s.remove(number), 0);
+    let weight = weight(number);
     let sides = sides(
-        &threads(n, false),
+        &s,
+        move |s| {
+            let reply = numbers::admit_best_effort(*s, number, weight);
+            *s = numbers::remove(reply.state, number).state;
+        },
+        move |s| {
+            s.admit_best_effort(number, weight);
+            s.remove(number);
+        },
+        move |s| {
+            let (_, next) = by_value::admit_best_effort(*s, number, weight);
+            *s = by_value::remove(next, number).1;
+        },
+    );
+    line("admit best-effort + remove", &counted(of), sides);
+}
+
+/// The last reserved thread is given one thousandth less and what it had.
+fn change(of: Shape) {
+    let number = of.reserved() - 1;
+    let amount = reservation(of.n);
+    let sides = sides(
+        &threads(of),
         move |s| {
             let reply = numbers::change(*s, number, amount - 1);
             *s = numbers::change(reply.state, number, amount).state;
@@ -155,7 +238,7 @@ fn change(n: u64) {
             *s = by_value::change(next, number, amount).1;
         },
     );
-    line("change + change back", &n.to_string(), sides);
+    line("change + change back", &counted(of), sides);
 }
 
 #[inline(never)]
@@ -163,9 +246,9 @@ fn sound_by_value(s: Scheduler) -> bool {
     s.sound()
 }
 
-fn soundness(n: u64) {
+fn soundness(of: Shape) {
     let sides = sides(
-        &threads(n, false),
+        &threads(of),
         |s| {
             black_box(numbers::sound(*s));
         },
@@ -176,7 +259,7 @@ fn soundness(n: u64) {
             black_box(sound_by_value(*s));
         },
     );
-    line("soundness test", &n.to_string(), sides);
+    line("soundness test", &counted(of), sides);
 }
 
 #[inline(never)]
@@ -205,7 +288,7 @@ fn priority_under(n: usize) {
     line("priority under n rows", &n.to_string(), sides);
 }
 
-fn roster(name: &str, s: Scheduler) {
+fn roster(name: &str, of: Shape, s: Scheduler) {
     let state = to_library(&s);
     let mut table = [numbers::Entry::default(); 64];
     let mut own = [Entry::default(); 64];
@@ -217,7 +300,7 @@ fn roster(name: &str, s: Scheduler) {
             black_box(&s).roster(black_box(&mut own));
         }),
     ];
-    line(name, "64", sides);
+    line(name, &counted(of), sides);
 }
 
 /// A block of 31 records. The library takes them as an array by value; the
@@ -273,28 +356,38 @@ fn blocks() {
 }
 
 pub fn print() {
-    println!("{:>76}", "library against");
+    println!("{:>82}", "library against");
     println!(
-        "{:<26} {:>3} {:>9} {:>9} {:>9}   {:<10} by value",
+        "{:<30} {:>5} {:>9} {:>9} {:>9}   {:<10} by value",
         "", "n", "library", "in place", "by value", "in place"
     );
-    for row in [
+    let rows = [
         dispatch_report,
         wake,
         dispatch_block_wake,
         admit_remove,
         change,
         soundness,
-    ] {
+    ];
+    for row in rows {
         for n in [1, 8, 64] {
-            row(n);
+            row(Shape::plain(n));
         }
     }
+    let all = Shape::plain(64);
+    let both = Shape { mixed: true, ..all };
+    for row in rows {
+        row(both);
+    }
+    pair("dispatch + report, best-effort", both, &left_over(both));
+    in_turn(both);
+    admit_best_effort_remove(both);
     for n in [1, 5, 10] {
         priority_under(n);
     }
-    roster("roster", worn(64, false));
-    roster("roster, lags falling", sloped(64, false, true));
-    roster("roster, lags rising", sloped(64, false, false));
+    roster("roster", all, worn(all));
+    roster("roster, lags falling", all, sloped(all, true));
+    roster("roster, lags rising", all, sloped(all, false));
+    roster("roster", both, worn(both));
     blocks();
 }

@@ -70,6 +70,7 @@ const SCHEDULER: &str = "crates/scheduler/src/lib.rt";
 const RUN: &str = "crates/scheduler/src/threads.rt";
 const PRIORITY: &str = "crates/priority/src/lib.rt";
 const TABLE: &str = "crates/priority/src/table.rt";
+const FAIR: &str = "crates/fair/src/lib.rt";
 const REFUSAL: &str = "crates/scheduler/src/refusal.rt";
 const ROSTER: &str = "crates/accounts/src/roster.rt";
 const RECORD: &str = "crates/record/src/lib.rt";
@@ -201,6 +202,21 @@ pub const FAMILIES: [Family; 10] = [
                 constant(SCHEDULER, "Settings::OVERRUN_MOST"),
                 "The greatest O, which the greatest m allows; with any m it is m - 1.",
             ),
+            one(
+                "LEAST_WEIGHT",
+                constant(FAIR, "WEIGHT_LEAST"),
+                "The least weight of a best-effort thread.",
+            ),
+            one(
+                "MOST_WEIGHT",
+                constant(FAIR, "WEIGHT_MOST"),
+                "The greatest weight of a best-effort thread.",
+            ),
+            one(
+                "TAG_UNIT",
+                constant(FAIR, "TAG_UNIT"),
+                "What a tick adds to the tag of a best-effort thread of weight 1.",
+            ),
         ],
     },
     Family {
@@ -291,7 +307,7 @@ pub const FAMILIES: [Family; 10] = [
             one(
                 "REASON_YIELD",
                 constant(RUN, "YIELD"),
-                "It moves to the rear with a full allotment, less its debt.",
+                "It moves to the rear with a full allotment, less its debt; for a best-effort thread it is as a tick.",
             ),
             one(
                 "REASON_EXIT",

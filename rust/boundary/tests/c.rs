@@ -102,7 +102,8 @@ fn other_targets_are_refused() {
     }
 }
 
-/// An answer that is not looked at, a state that is lost, and a start without an overrun limit, as before version 2.0.0.
+/// An answer that is not looked at, a state that is lost, a group for a best-effort thread, and what older versions had: a start without
+/// an overrun limit, before 2.0.0, and a thread's group by that name, before 3.0.0.
 #[test]
 fn mistakes_do_not_compile() {
     let folder = folder("c-mistakes");
@@ -111,6 +112,7 @@ fn mistakes_do_not_compile() {
         ("mtr_wake(&s, 5); return 0;", "unused"),
         ("mtr_run r; mtr_dispatch(&s, &r); return 0;", "unused"),
         ("mtr_change(&s, 5, 700); return 0;", "unused"),
+        ("mtr_admit_best_effort(&s, 5, 1); return 0;", "unused"),
         ("mtr_sound(&s); return 0;", "unused"),
         (
             "mtr_priority_table t = mtr_standard_table(); mtr_priority_under(&t, 5); return s.count != 0;",
@@ -127,6 +129,13 @@ fn mistakes_do_not_compile() {
             "mtr_answer a = mtr_start(&s, 100, 20000); return a == 0;",
             "mtr_start",
         ),
+        // It has no group.
+        (
+            "mtr_answer a = mtr_admit_best_effort(&s, 5, 0, 1); return a == 0;",
+            "mtr_admit_best_effort",
+        ),
+        // The byte is a group or a weight since version 3.0.0.
+        ("return s.threads[5].group;", "group"),
     ];
     for (compiler, standard, name) in standards() {
         let compile = |body: &str| {
@@ -168,7 +177,7 @@ fn stack() {
             compile.arg(archive()).args(["-Wl,-z,now", "-o", "stack"]);
             assert_eq!(printed(compile.current_dir(&folder)), "");
             let told = printed(&mut Command::new(folder.join("stack")));
-            assert_eq!(told.lines().count(), 18, "{told}");
+            assert_eq!(told.lines().count(), 19, "{told}");
             for line in told.lines() {
                 let (name, taken) = line.split_once(' ').unwrap();
                 let taken: usize = taken.parse().unwrap();

@@ -58,6 +58,12 @@ fn asserts_hold_the_layout() {
         ("    int32_t allotment;", "    int64_t allotment;"),
         ("    uint16_t overrun;", "    uint32_t overrun;"),
         ("    uint64_t first;", "    uint32_t first;"),
+        ("    uint64_t tag;", "    uint32_t tag;"),
+        ("    uint64_t time;", "    uint32_t time;"),
+        (
+            "    uint64_t meter;\n    uint64_t time;",
+            "    uint64_t time;\n    uint64_t meter;",
+        ),
         ("    uint32_t place;", "    uint64_t place;"),
         (
             "    mtr_priority_row rows[10];",
@@ -225,7 +231,7 @@ fn the_archive_has_the_functions() {
         .collect();
     present.sort_unstable();
     declared.sort_unstable();
-    assert_eq!(declared.len(), 20);
+    assert_eq!(declared.len(), 21);
     assert_eq!(present, declared);
     needed.sort_unstable();
     let libc = ["memcmp", "memcpy", "memmove", "memset"];

@@ -68,6 +68,7 @@ static void calls(void)
     const mtr_scheduler zeros = state;
     CHANGED(MTR_REFUSED_UNSOUND, wake, 5);
     CHANGED(MTR_REFUSED_UNSOUND, change, 5, 1);
+    CHANGED(MTR_REFUSED_UNSOUND, admit_best_effort, 5, 1);
     HOLD(!mtr_sound(&state));
     HOLD(mtr_start(&state, 0, 20000, 0) == MTR_REFUSED_SETTINGS && same(&state, &zeros));
     HOLD(mtr_start(&state, MTR_DEFAULT_THOUSANDTH, MTR_DEFAULT_INTERVAL, MTR_DEFAULT_OVERRUN) == MTR_ACCEPTED);
@@ -284,6 +285,92 @@ static void changes(void)
     dispatch(MTR_ACCEPTED, run_of(5, 5000, 0));
 }
 
+/* The admission of best-effort threads, and what it is refused with, beside the reserved thread 5 that has the whole core. */
+static void admissions(void)
+{
+    HOLD(mtr_start(&state, 100, 20000, 0) == MTR_ACCEPTED);
+    CHANGED(MTR_ACCEPTED, admit, 5, 0, 1000);
+    CHANGED(MTR_REFUSED_NO_THREAD, admit_best_effort, MTR_THREADS, 0);
+    CHANGED(MTR_REFUSED_ALREADY_ADMITTED, admit_best_effort, 5, 0);
+    CHANGED(MTR_REFUSED_AMOUNT, admit_best_effort, 40, MTR_LEAST_WEIGHT - 1);
+    CHANGED(MTR_REFUSED_AMOUNT, admit_best_effort, 40, MTR_MOST_WEIGHT + 1);
+    /* Cut to 32 bits this would be thread 40, and cut to 8, 16 or 32 bits a weight of 1. */
+    CHANGED(MTR_REFUSED_NO_THREAD, admit_best_effort, (UINT64_C(1) << 32) + 40, 1);
+    CHANGED(MTR_REFUSED_AMOUNT, admit_best_effort, 40, (UINT64_C(1) << 8) + 1);
+    CHANGED(MTR_REFUSED_AMOUNT, admit_best_effort, 40, (UINT64_C(1) << 16) + 1);
+    CHANGED(MTR_REFUSED_AMOUNT, admit_best_effort, 40, (UINT64_C(1) << 32) + 1);
+    const mtr_reply reply = mtr_by_value_admit_best_effort(state, 40, MTR_MOST_WEIGHT);
+    HOLD(reply.answer == MTR_ACCEPTED && reply.thread == 0 && reply.slice == 0 && reply.before == 0);
+    CHANGED(MTR_ACCEPTED, admit_best_effort, 40, MTR_LEAST_WEIGHT);
+    CHANGED(MTR_ACCEPTED, admit_best_effort, 41, 2);
+    CHANGED(MTR_REFUSED_ALREADY_ADMITTED, admit_best_effort, 40, 1);
+    CHANGED(MTR_REFUSED_ALREADY_ADMITTED, admit, 40, 0, 1);
+    HOLD(state.count == 1 && state.threads[41].group_or_weight == 2 && state.threads[41].reservation == 0);
+    uint32_t total = 0;
+    HOLD(mtr_subtree(&state, 0, &total) == MTR_ACCEPTED && total == 1000);
+}
+
+/* They run where the reserved thread does not, the smallest tag first. */
+static void best_effort(void)
+{
+    const uint64_t whole = UINT64_C(20000) * MTR_TAG_UNIT;
+    admissions();
+    dispatch(MTR_ACCEPTED, run_of(5, 20000, 0));
+    CHANGED(MTR_ACCEPTED, report, MTR_REASON_BLOCK, 300);
+    dispatch(MTR_ACCEPTED, run_of(40, 20000, 1));
+    CHANGED(MTR_REFUSED_NO_THREAD, change, 40, 100);
+    CHANGED(MTR_REFUSED_THREAD_RUNNING, remove, 40);
+    CHANGED(MTR_REFUSED_OVER_SLICE, report, MTR_REASON_TICK, 20001);
+    CHANGED(MTR_ACCEPTED, wake, 5);
+    CHANGED(MTR_ACCEPTED, report, MTR_REASON_TICK, 20000);
+    HOLD(state.threads[40].tag == whole && state.time == 0);
+    /* The reserved thread waited for one run. */
+    dispatch(MTR_ACCEPTED, run_of(5, 20000, 0));
+    CHANGED(MTR_ACCEPTED, report, MTR_REASON_BLOCK, 0);
+    dispatch(MTR_ACCEPTED, run_of(41, 20000, 1));
+    CHANGED(MTR_ACCEPTED, report, MTR_REASON_TICK, 20000);
+    dispatch(MTR_ACCEPTED, run_of(41, 20000, 1));
+    HOLD(state.time == whole / 2);
+    CHANGED(MTR_ACCEPTED, report, MTR_REASON_BLOCK, 20000);
+    HOLD(state.threads[41].tag == whole);
+    dispatch(MTR_ACCEPTED, run_of(40, 20000, 1));
+    CHANGED(MTR_ACCEPTED, report, MTR_REASON_YIELD, 1);
+    CHANGED(MTR_REFUSED_NO_THREAD, change, 40, 100);
+    dispatch(MTR_ACCEPTED, run_of(40, 20000, 1));
+    CHANGED(MTR_ACCEPTED, report, MTR_REASON_BLOCK, 0);
+    dispatch(MTR_ACCEPTED, run_of(MTR_NO_THREAD, 0, 3));
+    CHANGED(MTR_REFUSED_NO_THREAD, change, 40, 100);
+    /* What it could have had is not made up for. */
+    CHANGED(MTR_ACCEPTED, wake, 41);
+    HOLD(state.time == whole + MTR_TAG_UNIT && state.threads[41].tag == state.time);
+}
+
+static void best_effort_figures(void)
+{
+    int64_t lag = 77;
+    HOLD(mtr_lag(&state, 41, &lag) == MTR_ACCEPTED && lag == 0);
+    uint32_t share = 77;
+    HOLD(mtr_share(&state, 41, &share) == MTR_ACCEPTED && share == 663);
+    /* The table has room for all three, and no more are filled. */
+    mtr_entry table[4];
+    memset(table, 7, sizeof table);
+    const mtr_entry past = table[3];
+    size_t filled = 77;
+    HOLD(mtr_roster(&state, table, 2, &filled) == MTR_REFUSED_LENGTH && filled == 77);
+    HOLD(mtr_roster(&state, table, 4, &filled) == MTR_ACCEPTED && filled == 3 && memcmp(table + 3, &past, sizeof past) == 0);
+    HOLD(table[0].number == 5 && table[1].number == 40 && table[2].number == 41);
+    HOLD(table[1].state == MTR_ROSTER_BLOCKED && table[2].state == MTR_ROSTER_RUNNABLE);
+    HOLD(table[2].allotment == 0 && table[2].lag == 0 && table[2].share == share);
+    CHANGED(MTR_ACCEPTED, remove, 40);
+    HOLD(mtr_roster(&state, table, 2, &filled) == MTR_ACCEPTED && filled == 2);
+    CHANGED(MTR_REFUSED_NO_ROOM, admit, 40, 0, 1);
+    CHANGED(MTR_ACCEPTED, admit_best_effort, 40, MTR_MOST_WEIGHT);
+    HOLD(state.threads[40].tag == state.time && mtr_sound(&state));
+    state.threads[40].group_or_weight = MTR_MOST_WEIGHT + 1;
+    HOLD(!mtr_sound(&state));
+    CHANGED(MTR_REFUSED_UNSOUND, admit_best_effort, 42, 1);
+}
+
 static void blocks(void)
 {
     mtr_records list;
@@ -320,6 +407,13 @@ static void blocks(void)
     HOLD(mtr_read_block(area, sizeof area, 3, &found, &count) == MTR_ACCEPTED && memcmp(&found, &list, sizeof list) == 0);
     list.records[0].group = 1;
     HOLD(mtr_write_block(area, sizeof area, 3, &list, 1) == MTR_REFUSED_FORM);
+    /* Nor has the admission of a best-effort thread, which has a weight. */
+    list.records[0].kind = MTR_KIND_BEST_EFFORT;
+    HOLD(mtr_write_block(area, sizeof area, 3, &list, 1) == MTR_REFUSED_FORM);
+    list.records[0].group = 0;
+    list.records[0].amount = MTR_MOST_WEIGHT;
+    HOLD(mtr_write_block(area, sizeof area, 3, &list, 1) == MTR_ACCEPTED && area[14] == 10 && area[18] == 16);
+    HOLD(mtr_read_block(area, sizeof area, 3, &found, &count) == MTR_ACCEPTED && memcmp(&found, &list, sizeof list) == 0);
 }
 
 int main(void)
@@ -329,6 +423,8 @@ int main(void)
     tables();
     overruns();
     changes();
+    best_effort();
+    best_effort_figures();
     blocks();
     HOLD(mtr_version() == MTR_VERSION);
     for (uint32_t answer = 0; answer <= 24; answer++)

@@ -26,6 +26,7 @@ static void f_start(void) { answer = mtr_start(&other, 100, 20000, 99); }
 static void f_open(void) { answer = mtr_open(&state, 1, 0, 100); }
 static void f_close(void) { answer = mtr_close(&state, 1); }
 static void f_admit(void) { answer = mtr_admit(&state, 9, 0, 5); }
+static void f_admit_best_effort(void) { answer = mtr_admit_best_effort(&state, 10, 3); }
 static void f_remove(void) { answer = mtr_remove(&state, 9); }
 static void f_wake(void) { answer = mtr_wake(&state, 5); }
 static void f_dispatch(void) { answer = mtr_dispatch(&state, &run); }
@@ -69,6 +70,7 @@ int main(void)
         { "open", f_open },
         { "close", f_close },
         { "admit", f_admit },
+        { "admit_best_effort", f_admit_best_effort },
         { "dispatch", f_dispatch },
         { "report", f_report },
         { "wake", f_wake },

@@ -5,7 +5,7 @@
 //! It ends with status 101 and the seed, round and call at the first difference from the model, and by a signal, with
 //! the same line, at the first touch of memory that was not lent. With ROUND it makes that round alone.
 
-use check::attack::{Attack, FUNCTIONS, ORIGINS};
+use check::attack::{Attack, FUNCTIONS, ORIGINS, PROPERTIES};
 use check::faults;
 use std::time::{Duration, Instant, SystemTime};
 
@@ -52,8 +52,13 @@ fn main() {
     for (origin, [unsound, sound]) in ORIGINS.iter().zip(attack.states) {
         println!("states, {origin}: {sound} sound, {unsound} not");
     }
+    for ((name, _, _), [unsound, sound]) in PROPERTIES.iter().zip(attack.properties) {
+        println!("states, {name}: {sound} sound, {unsound} not");
+    }
+    println!("16 by what alone is broken: {:?}", attack.broken);
     println!("{:?}", attack.late);
     println!("{:?}", attack.changes);
+    println!("{:?}", attack.best_effort);
     println!("{:?}", attack.shares);
     println!("{:?}", attack.tables);
     let spent = begun.elapsed().as_secs_f64();

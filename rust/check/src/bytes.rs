@@ -44,10 +44,10 @@ macro_rules! whole {
 }
 
 whole! {
-    Thread { admission, anchor, ticks, since, allotment, reservation, group, status }
+    Thread { admission, anchor, ticks, since, allotment, reservation, group_or_weight, status, tag }
     Group { ceiling, parent, opened }
     Settings { interval, thousandth, overrun }
-    Scheduler { threads, order, groups, meter, settings, count, running }
+    Scheduler { threads, order, groups, meter, time, settings, count, running }
     Reply { answer, thread, slice, before, state }
     Mapped { answer, reservation }
     Total { answer, thousandths }
@@ -109,7 +109,8 @@ impl<const N: usize> Area<N> {
         }
         self.put(&t.allotment.to_le_bytes());
         self.put(&t.reservation.to_le_bytes());
-        self.put(&[t.group, t.status]);
+        self.put(&[t.group_or_weight, t.status]);
+        self.put(&t.tag.to_le_bytes());
     }
 
     fn settings(&mut self, settings: &Settings) {
@@ -128,6 +129,7 @@ impl<const N: usize> Area<N> {
             self.put(&[g.parent, g.opened]);
         }
         self.put(&s.meter.to_le_bytes());
+        self.put(&s.time.to_le_bytes());
         self.settings(&s.settings);
         self.put(&s.count.to_le_bytes());
         self.put(&s.running.to_le_bytes());

@@ -15,9 +15,14 @@ pub struct Change {
     quantum: u64,
     lag: i64,
     blocked: bool,
+    /// The thread is a best-effort one, and it runs.
+    best_effort: bool,
+    runs: bool,
     /// Another thread is running.
     beside: bool,
     group: usize,
+    /// A best-effort thread has its number as weight.
+    weighed: bool,
     /// What the thread may have: what its group has free, and its old reservation.
     room: u64,
     /// What the group above has free.
@@ -49,7 +54,7 @@ impl Change {
 type Sort = (&'static str, fn(&Change) -> bool);
 
 /// Every sort that a test asks for.
-pub const SORTS: [Sort; 23] = [
+pub const SORTS: [Sort; 27] = [
     ("cut to the new quantum", |c| {
         c.accepted() && c.allotment > c.quantum
     }),
@@ -86,8 +91,21 @@ pub const SORTS: [Sort; 23] = [
     }),
     ("7 above 63", |c| c.answer == 7 && c.number > 63),
     ("7 for a number not admitted", |c| {
-        c.answer == 7 && c.number < 64
+        c.answer == 7 && c.number < 64 && !c.best_effort
     }),
+    ("7 for a best-effort thread", |c| {
+        c.answer == 7 && c.best_effort && !c.runs
+    }),
+    ("7 for a best-effort thread that runs", |c| {
+        c.answer == 7 && c.best_effort && c.runs
+    }),
+    ("7 for a best-effort thread, before 4", |c| {
+        c.answer == 7 && c.best_effort && !c.in_range()
+    }),
+    (
+        "while a best-effort thread has the group's number as weight",
+        |c| c.accepted() && c.weighed,
+    ),
     ("7 before 4", |c| c.answer == 7 && !c.in_range()),
     ("9", |c| c.answer == 9 && c.in_range()),
     ("9 before 4", |c| c.answer == 9 && !c.in_range()),
@@ -148,7 +166,9 @@ impl fmt::Debug for Changes {
 fn change(s: &Scheduler, number: u64, amount: u64, answer: u32) -> Change {
     let t = s.threads.get(number as usize);
     let t = t.filter(|_| number < 64).unwrap_or(&Thread::UNUSED);
-    let group = t.group as usize % 16;
+    let best_effort = t.is_best_effort();
+    let group = if t.is_reserved() { t.group() } else { 0 };
+    let mut others = s.threads.iter().filter(|t| t.is_best_effort());
     Change {
         number,
         amount,
@@ -158,8 +178,11 @@ fn change(s: &Scheduler, number: u64, amount: u64, answer: u32) -> Change {
         quantum: amount.saturating_mul(s.settings.thousandth as u64),
         lag: s.lag(number).unwrap_or(0),
         blocked: t.status == BLOCKED,
+        best_effort,
+        runs: s.running as u64 == number,
         beside: s.running != NONE && s.running as u64 != number,
         group,
+        weighed: others.any(|t| t.weight() == group as u64),
         room: free(s, group) + t.reservation as u64,
         above: free(s, s.groups[group].parent as usize % 16),
     }

@@ -6,6 +6,7 @@
 
 #![forbid(unsafe_code)]
 
+use crate::best_effort::BestEffort;
 use crate::bytes;
 use crate::changes::Changes;
 use crate::late::Late;
@@ -27,8 +28,9 @@ macro_rules! state {
                 since: t.since,
                 allotment: t.allotment,
                 reservation: t.reservation,
-                group: t.group,
+                group_or_weight: t.group_or_weight,
                 status: t.status,
+                tag: t.tag,
             }),
             order: $s.order,
             groups: $s.groups.map(|g| $side::Group {
@@ -37,6 +39,7 @@ macro_rules! state {
                 opened: g.opened,
             }),
             meter: $s.meter,
+            time: $s.time,
             settings: $side::Settings {
                 interval: $s.settings.interval,
                 thousandth: $s.settings.thousandth,
@@ -134,6 +137,7 @@ pub const ZEROS: Scheduler = Scheduler {
     order: [0; 64],
     groups: [Group::CLOSED; 16],
     meter: 0,
+    time: 0,
     settings: Settings {
         interval: 0,
         thousandth: 0,
@@ -165,6 +169,9 @@ pub fn made(state: numbers::Scheduler, call: Call) -> numbers::Reply {
             number,
             reservation,
         } => numbers::change(state, number, reservation),
+        Call::AdmitBestEffort { number, weight } => {
+            numbers::admit_best_effort(state, number, weight)
+        }
     }
 }
 
@@ -236,14 +243,22 @@ pub fn sound(s: &Scheduler) -> bool {
 }
 
 /// Kinds of calls in the order of their record numbers, of which start, 8, is none.
-pub const KINDS: [&str; 8] = [
-    "open", "close", "admit", "remove", "wake", "dispatch", "report", "change",
+pub const KINDS: [&str; 9] = [
+    "open",
+    "close",
+    "admit",
+    "remove",
+    "wake",
+    "dispatch",
+    "report",
+    "change",
+    "admit best-effort",
 ];
 
 /// The call's place in [`KINDS`].
 pub fn kind(call: Call) -> usize {
     match calls::record(call).kind {
-        kind::CHANGE => 7,
+        number @ (kind::CHANGE | kind::ADMIT_BEST_EFFORT) => number as usize - 2,
         number => number as usize - 1,
     }
 }
@@ -251,13 +266,15 @@ pub fn kind(call: Call) -> usize {
 /// How often each call gave each answer.
 #[derive(Default)]
 pub struct Tally {
-    counts: [[u64; 17]; 8],
+    counts: [[u64; 17]; KINDS.len()],
     /// Accepted dispatches that found no runnable thread.
     pub idle: u64,
     /// What occurred of overruns.
     pub late: Late,
     /// What occurred of changes.
     pub changes: Changes,
+    /// What occurred of best-effort threads.
+    pub best_effort: BestEffort,
 }
 
 impl Tally {
@@ -268,6 +285,7 @@ impl Tally {
         if reply.answer != 16 {
             self.late.call(&before, call, reply.answer);
             self.changes.call(&before, call, reply.answer);
+            self.best_effort.call(&before, call, reply, s);
         }
         self.add(call, reply);
         reply
@@ -308,5 +326,6 @@ impl Tally {
         println!("idle dispatches: {}", self.idle);
         println!("{:?}", self.late);
         println!("{:?}", self.changes);
+        println!("{:?}", self.best_effort);
     }
 }

@@ -4,6 +4,7 @@
 //! bytes are read as a recipe: what stands in the journal, with right checks unless the recipe damages
 //! a block. Any bytes are a recipe.
 
+use crate::best_effort::BestEffort;
 use crate::bytes;
 use crate::changes::Changes;
 use crate::compare::{both, sound, start, to_library, to_library_record, to_model_entry};
@@ -85,7 +86,8 @@ impl Bytes<'_> {
             listed => s.list()[place % listed] as usize,
         };
         let t = &s.threads[number];
-        let group = t.group as usize;
+        // Of an empty list the number may be free or that of a best-effort thread.
+        let group = if t.is_reserved() { t.group() } else { 0 };
         let free = s.groups[group].ceiling as u32 - s.taken(group);
         let from = match first >> 6 {
             0 => t.reservation as u32,
@@ -96,6 +98,19 @@ impl Bytes<'_> {
         record(Call::Change {
             number: number as u64,
             reservation: from.saturating_add_signed(self.byte() as i8 as i32).into(),
+        })
+    }
+
+    /// The record of an admission of a best-effort thread on a state, in one byte: the low half is the weight less one, the
+    /// other one says how many of the free numbers are passed over. Of no free number it is the highest.
+    fn admit_best_effort(&mut self, s: &Scheduler) -> Record {
+        let byte = self.byte();
+        let (weight, passed) = (byte % 16 + 1, byte as usize / 16);
+        let free: Vec<usize> = (0..64).filter(|&n| s.threads[n].status == 0).collect();
+        let last = free.last().copied().unwrap_or(63);
+        record(Call::AdmitBestEffort {
+            number: free.get(passed).copied().unwrap_or(last) as u64,
+            weight: weight.into(),
         })
     }
 }
@@ -138,11 +153,16 @@ const BLOCKS: usize = 24;
 const CHANGE: [u8; 2] = [0x6e, 0x8e];
 const CHANGE_BY: [u8; 2] = [0xbe, 0xee];
 
+/// Items that are an admission of a best-effort thread, with its fields and in one byte.
+const BEST_EFFORT: u8 = 0x4f;
+const BEST_EFFORT_BY: u8 = 0x6f;
+
 /// Item by item: the low half of a byte is a record's kind, followed by the fields that it uses; 0 ends the
 /// block; 9 sets a byte of the block under its check and 10 one after it; 11 cuts the end of the journal
 /// off; 12 and 13 are reports by their distance from the slice and from the most that is accepted, in the state
 /// that the records so far make. Of the bytes whose low half is 14 two are a change with its fields, and two one by the
-/// amount's distance: those that no recipe had before there were changes. Others are passed over.
+/// amount's distance; of those whose low half is 15 one is an admission of a best-effort thread with its fields, and one
+/// such an admission in a byte: those that no recipe had before. Others are passed over.
 fn listed(mut bytes: Bytes) -> Vec<u8> {
     let mut journal = Vec::new();
     let mut records = Vec::new();
@@ -157,6 +177,8 @@ fn listed(mut bytes: Bytes) -> Vec<u8> {
             12 | 13 => Some(bytes.report(&s, kind == 13)),
             _ if CHANGE.contains(&item) => Some(bytes.record(kind::CHANGE)),
             _ if CHANGE_BY.contains(&item) => Some(bytes.change(&s)),
+            _ if item == BEST_EFFORT => Some(bytes.record(kind::ADMIT_BEST_EFFORT)),
+            _ if item == BEST_EFFORT_BY => Some(bytes.admit_best_effort(&s)),
             _ => None,
         };
         if let Some(record) = record {
@@ -188,13 +210,14 @@ fn listed(mut bytes: Bytes) -> Vec<u8> {
     journal
 }
 
-/// What a replay printed, what occurred of overruns and changes in it, and the
-/// shares at its end.
+/// What a replay printed, what occurred of overruns, changes and best-effort threads
+/// in it, and the shares at its end.
 #[derive(Clone, Debug, Default, PartialEq, Eq)]
 pub struct Replayed {
     pub printed: String,
     pub late: Late,
     pub changes: Changes,
+    pub best_effort: BestEffort,
     pub shares: Shares,
 }
 
@@ -284,6 +307,7 @@ fn run(state: &mut Option<Scheduler>, r: &Record, all: &mut Replayed) -> Reply {
             let reply = both(s, call);
             all.late.call(&before, call, reply.answer);
             all.changes.call(&before, call, reply.answer);
+            all.best_effort.call(&before, call, reply, s);
             reply
         }
         None => Reply::plain(20),
@@ -293,7 +317,7 @@ fn run(state: &mut Option<Scheduler>, r: &Record, all: &mut Replayed) -> Reply {
 /// The roster on both sides, into tables that are just long enough and one too short.
 fn roster(page: &mut Guarded, s: &Scheduler) {
     const ENTRY: usize = size_of::<raw::Entry>();
-    let threads = s.list().len();
+    let threads = s.threads.iter().filter(|t| t.status != 0).count();
     for length in [threads, threads.saturating_sub(1)] {
         let mut wanted = vec![Entry::default(); length];
         let answer = s.roster(&mut wanted);

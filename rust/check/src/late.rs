@@ -1,4 +1,4 @@
-//! What occurred of overruns, so that a test can ask that all of it did.
+//! What occurred of overruns of reserved threads, so that a test can ask that all of it did.
 
 use model::calls::Call;
 use model::rule::{Scheduler, EXIT};
@@ -33,6 +33,10 @@ impl Late {
         let Some(t) = before.threads.get(before.running as usize) else {
             return;
         };
+        // A best-effort thread has no allotment.
+        if t.reservation == 0 {
+            return;
+        }
         let slice = t.slice(&before.settings) as u64;
         let overrun = before.settings.overrun as u64;
         if overrun > 0 && reason <= EXIT {

@@ -5,6 +5,7 @@
 //! - [`share`]: a share by its meaning, and what occurred of shares.
 //! - [`late`]: what occurred of overruns.
 //! - [`changes`]: what occurred of changes of a reservation.
+//! - [`best_effort`]: what occurred of best-effort threads.
 //! - [`tables`]: what occurred of tables of priorities.
 //! - [`table_recipe`]: a table of priorities made of any bytes, and what both sides answer under it.
 //! - [`program`]: `mtrrun` and `mtrwhy`, run as they were built.
@@ -19,6 +20,7 @@
 #![deny(unsafe_op_in_unsafe_fn)]
 
 pub mod attack;
+pub mod best_effort;
 pub mod bytes;
 pub mod changes;
 pub mod compare;

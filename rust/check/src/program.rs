@@ -10,6 +10,22 @@ pub fn root() -> PathBuf {
     PathBuf::from(env!("CARGO_MANIFEST_DIR")).join("../..")
 }
 
+/// The journals in examples/journals, by name.
+///
+/// # Panics
+///
+/// If the folder can't be read, or holds fewer than five.
+pub fn shipped() -> Vec<PathBuf> {
+    let entries = std::fs::read_dir(root().join("examples/journals")).unwrap();
+    let paths = entries.map(|entry| entry.unwrap().path());
+    let mut journals: Vec<PathBuf> = paths
+        .filter(|path| path.extension().is_some_and(|end| end == "blocks"))
+        .collect();
+    journals.sort();
+    assert!(journals.len() >= 5, "{journals:?}");
+    journals
+}
+
 /// What `target/bin/mtrrun` prints for an input that arrives through a pipe in
 /// pieces of these lengths, again and again.
 ///

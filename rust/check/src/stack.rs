@@ -71,11 +71,16 @@ impl Painted {
 
 /// The calls by their names in C without `mtr_`, the exported function of each, and the bytes of the
 /// reply that the function in C keeps on the stack.
-const CALLS: [(&str, *const (), usize); 18] = [
+const CALLS: [(&str, *const (), usize); 19] = [
     ("start", raw::mtr_by_value_start as *const (), REPLY),
     ("open", raw::mtr_by_value_open as *const (), REPLY),
     ("close", raw::mtr_by_value_close as *const (), REPLY),
     ("admit", raw::mtr_by_value_admit as *const (), REPLY),
+    (
+        "admit_best_effort",
+        raw::mtr_by_value_admit_best_effort as *const (),
+        REPLY,
+    ),
     ("remove", raw::mtr_by_value_remove as *const (), REPLY),
     ("wake", raw::mtr_by_value_wake as *const (), REPLY),
     ("dispatch", raw::mtr_by_value_dispatch as *const (), REPLY),
@@ -139,7 +144,7 @@ fn one(
     for record in list.records.iter_mut().take(count as usize) {
         *record = to_library_record(&any_record(r));
     }
-    if call == 17 && r.chance(3, 4) {
+    if call == 18 && r.chance(3, 4) {
         mtr::numbers::write_first(&mut area, 7, list, count as usize);
     }
     // The standard table has ten rows, and the priority of the last is asked for.
@@ -154,18 +159,18 @@ fn one(
     let lent = area.as_mut_ptr() as u64;
     let (value, numbers) = match call {
         0 => (nothing, [to, 100, 20_000, r.range(0, 100), 0, 0]),
-        1..=8 => (by_value, step(r, to, call, state)),
-        9 => (by_value, [0; 6]),
-        10 => (nothing, [r.range(0, 11), 0, 0, 0, 0, 0]),
-        11 => (by_value, [r.range(0, 3), 0, 0, 0, 0, 0]),
-        12 => {
+        1..=9 => (by_value, step(r, to, call, state)),
+        10 => (by_value, [0; 6]),
+        11 => (nothing, [r.range(0, 11), 0, 0, 0, 0, 0]),
+        12 => (by_value, [r.range(0, 3), 0, 0, 0, 0, 0]),
+        13 => {
             let rows = (&priorities as *const PriorityTable).cast();
             let rows = (rows, size_of::<PriorityTable>());
             (rows, [priority, 0, 0, 0, 0, 0])
         }
-        13 | 14 => (by_value, [r.range(0, 64), 0, 0, 0, 0, 0]),
-        15 => (by_value, [table.as_mut_ptr() as u64, 64, 0, 0, 0, 0]),
-        16 => {
+        14 | 15 => (by_value, [r.range(0, 64), 0, 0, 0, 0, 0]),
+        16 => (by_value, [table.as_mut_ptr() as u64, 64, 0, 0, 0, 0]),
+        17 => {
             let records = (&list as *const Records).cast();
             let records = (records, size_of::<Records>());
             (records, [lent, 512, 7, count, 0, 0])
@@ -177,7 +182,7 @@ fn one(
     unsafe { painted.call(function, &handed) }
 }
 
-/// The numbers of one of the eight calls that a state is changed by.
+/// The numbers of one of the nine calls that a state is changed by.
 fn step(r: &mut Rng, to: u64, call: usize, state: &raw::Scheduler) -> [u64; 6] {
     // Of the model's calls on this state the first of the kind, if one comes soon.
     for _ in 0..40 {
@@ -194,14 +199,15 @@ fn step(r: &mut Rng, to: u64, call: usize, state: &raw::Scheduler) -> [u64; 6] {
                 group,
                 reservation,
             } => (3, [number, group, reservation]),
-            Made::Remove { number } => (4, [number, 0, 0]),
-            Made::Wake { number } => (5, [number, 0, 0]),
-            Made::Dispatch => (6, [0; 3]),
-            Made::Report { reason, used } => (7, [reason, used, 0]),
+            Made::AdmitBestEffort { number, weight } => (4, [number, weight, 0]),
+            Made::Remove { number } => (5, [number, 0, 0]),
+            Made::Wake { number } => (6, [number, 0, 0]),
+            Made::Dispatch => (7, [0; 3]),
+            Made::Report { reason, used } => (8, [reason, used, 0]),
             Made::Change {
                 number,
                 reservation,
-            } => (8, [number, reservation, 0]),
+            } => (9, [number, reservation, 0]),
         };
         if kind == call {
             return [to, numbers[0], numbers[1], numbers[2], 0, 0];
@@ -211,8 +217,15 @@ fn step(r: &mut Rng, to: u64, call: usize, state: &raw::Scheduler) -> [u64; 6] {
 }
 
 /// States with 64 threads and 16 groups, each below the one before: one is running, none is, all are
-/// blocked but the last, and one with a place left.
-fn deep() -> [raw::Scheduler; 4] {
+/// blocked but the last, and one with a place left; then the same with every other thread a
+/// best-effort one, which comes to run where the reserved ones are blocked.
+fn deep() -> [raw::Scheduler; 8] {
+    let [a, b, c, d] = deepest(false);
+    let [e, f, g, h] = deepest(true);
+    [a, b, c, d, e, f, g, h]
+}
+
+fn deepest(mixed: bool) -> [raw::Scheduler; 4] {
     let built = |threads: u8| {
         // Reports may end in debt.
         let late = Settings {
@@ -226,17 +239,28 @@ fn deep() -> [raw::Scheduler; 4] {
                 .unwrap();
         }
         for thread in 0..threads {
-            s.admit(thread, 15 - thread % 16, 15).unwrap();
+            if mixed && thread % 2 == 1 {
+                s.admit_best_effort(thread, u16::from(1 + thread % 16))
+                    .unwrap();
+            } else {
+                s.admit(thread, 15 - thread % 16, 15).unwrap();
+            }
         }
         s
     };
+    let block = |s: &mut Scheduler, runs: usize| {
+        for _ in 0..runs {
+            s.dispatch().unwrap();
+            s.report(Reason::Block, 1).unwrap();
+        }
+    };
     let idle = built(64);
     let mut running = built(64);
+    if mixed {
+        block(&mut running, 32);
+    }
     running.dispatch().unwrap();
     let mut blocked = built(64);
-    for _ in 0..63 {
-        blocked.dispatch().unwrap();
-        blocked.report(Reason::Block, 1).unwrap();
-    }
+    block(&mut blocked, 63);
     [&idle, &running, &blocked, &built(63)].map(|s| *s.as_raw())
 }

@@ -3,6 +3,7 @@
 use crate::journal::Case;
 use model::blocks::{kind, read_block, Record, BLOCK, RECORDS};
 use model::random::Rng;
+use model::rule::RUNNABLE;
 use model::why::{why_from, History};
 use std::collections::BTreeMap;
 use std::io::{self, Read};
@@ -10,10 +11,16 @@ use std::io::{self, Read};
 /// What a record's number stands for.
 #[derive(Clone, Copy, Debug, PartialEq, Eq, PartialOrd, Ord)]
 pub enum Sort {
-    /// A thread with none, one or several before it.
+    /// A reserved thread with none, one or several before it.
     Chosen(Named),
-    /// Idle, with no thread listed, one or several.
+    /// A best-effort thread with no reserved thread, one or several.
+    BestEffort(Named),
+    /// Idle, with no thread admitted, or with one reserved thread or several.
     Idle(Named),
+    /// Idle, with one best-effort thread or several, and no reserved one.
+    IdleBestEffort(Named),
+    /// Idle, with threads of both kinds.
+    IdleBoth,
     /// 12.
     Busy,
     /// 21: the number is past the journal's last block.
@@ -38,13 +45,19 @@ pub enum Named {
 }
 
 impl Sort {
-    pub const ALL: [Sort; 13] = [
+    pub const ALL: [Sort; 19] = [
         Sort::Chosen(Named::None),
         Sort::Chosen(Named::One),
         Sort::Chosen(Named::Several),
+        Sort::BestEffort(Named::None),
+        Sort::BestEffort(Named::One),
+        Sort::BestEffort(Named::Several),
         Sort::Idle(Named::None),
         Sort::Idle(Named::One),
         Sort::Idle(Named::Several),
+        Sort::IdleBestEffort(Named::One),
+        Sort::IdleBestEffort(Named::Several),
+        Sort::IdleBoth,
         Sort::Busy,
         Sort::PastTheEnd,
         Sort::InRefused,
@@ -54,10 +67,25 @@ impl Sort {
         Sort::Stopped,
     ];
 
+    /// The sort that its answer shows, which does not tell the kinds of thread.
+    fn shown(self) -> Sort {
+        match self {
+            Sort::BestEffort(named) => Sort::Chosen(named),
+            Sort::IdleBestEffort(named) => Sort::Idle(named),
+            Sort::IdleBoth => Sort::Idle(Named::Several),
+            other => other,
+        }
+    }
+
+    /// Whether best-effort threads are part of it.
+    pub fn of_best_effort(self) -> bool {
+        self != self.shown()
+    }
+
     /// Whether an answer can be one of this sort.
     pub fn fits(self, answer: &[u8]) -> bool {
-        match self {
-            Sort::Chosen(_) | Sort::Idle(_) => Sort::of_zero(answer) == Some(self),
+        match self.shown() {
+            shown @ (Sort::Chosen(_) | Sort::Idle(_)) => Sort::of_zero(answer) == Some(shown),
             Sort::Busy => answer.starts_with(b"12 "),
             _ => answer == b"21\n",
         }
@@ -66,7 +94,7 @@ impl Sort {
     /// Whether the record is a dispatch.
     pub fn is_dispatch(self) -> bool {
         matches!(
-            self,
+            self.shown(),
             Sort::Chosen(_) | Sort::Idle(_) | Sort::Busy | Sort::Stopped
         )
     }
@@ -100,11 +128,21 @@ fn sort(history: &History, record: &Record) -> Sort {
     if record.kind != kind::DISPATCH {
         return Sort::NoDispatch;
     }
-    if history.state().is_none() {
+    let Some(state) = history.state() else {
         return Sort::Stopped;
+    };
+    let ready = |reserved: bool| {
+        let mut all = state.threads.iter();
+        all.any(|t| t.status == RUNNABLE && t.is_reserved() == reserved)
+    };
+    let others = state.threads.iter().any(|t| t.is_best_effort());
+    match Sort::of_zero(&history.answer(record)) {
+        None => Sort::Busy,
+        Some(Sort::Chosen(named)) if !ready(true) && ready(false) => Sort::BestEffort(named),
+        Some(Sort::Idle(_)) if others && state.count > 0 => Sort::IdleBoth,
+        Some(Sort::Idle(named)) if others => Sort::IdleBestEffort(named),
+        Some(sort) => sort,
     }
-    let answer = history.answer(record);
-    Sort::of_zero(&answer).unwrap_or(Sort::Busy)
 }
 
 /// The sort of every number that a block of the journal has room for.
@@ -148,7 +186,7 @@ pub const FAR: [u64; 8] = [
     9_999_999_999_999_999_999,
 ];
 
-/// About eleven numbers: one of each sort that the journal has, then any of its own, the first past it and one far away.
+/// At least eleven numbers: one of each sort that the journal has, then any of its own, the first past it and one far away.
 pub fn drawn(r: &mut Rng, sorts: &[Sort]) -> Vec<u64> {
     let mut asked = Vec::new();
     for sort in Sort::ALL {

@@ -1,5 +1,6 @@
 //! Lag, achieved share and the roster.
 
+use check::best_effort::{quiet_call, BestEffort};
 use check::changes::Changes;
 use check::compare::{both, start, to_library, to_model_entry};
 use check::late::Late;
@@ -19,6 +20,11 @@ const MARK: numbers::Entry = numbers::Entry {
     lag: -81,
 };
 
+/// The threads of either kind.
+fn admitted(s: &Scheduler) -> usize {
+    s.threads.iter().filter(|t| t.status != FREE).count()
+}
+
 /// The roster on both sides with a table of the length. Records past the last
 /// and past the table keep their contents, and a refusal leaves all.
 fn roster(s: &Scheduler, length: usize) -> Result<Vec<Entry>, u32> {
@@ -26,7 +32,7 @@ fn roster(s: &Scheduler, length: usize) -> Result<Vec<Entry>, u32> {
     let answer = numbers::roster(to_library(s), &mut table[..length]);
     let mut wanted = vec![to_model_entry(&MARK); length];
     assert_eq!(answer, s.roster(&mut wanted), "table of {length}");
-    let filled = if answer == 0 { s.count as usize } else { 0 };
+    let filled = if answer == 0 { admitted(s) } else { 0 };
     assert!(table[..length].iter().map(to_model_entry).eq(wanted));
     assert!(table[filled..].iter().all(|e| *e == MARK));
     match answer {
@@ -52,7 +58,7 @@ fn lag_and_share(s: &Scheduler, number: u64) -> Result<(i64, u64), u32> {
 fn plainly(s: &Scheduler, number: usize) -> (i128, u128) {
     let t = &s.threads[number];
     let growth = (s.meter - t.anchor) as i128;
-    let lag = if t.status == BLOCKED {
+    let lag = if t.status == BLOCKED || t.is_best_effort() {
         0
     } else {
         t.reservation as i128 * growth - 1000 * t.since as i128
@@ -70,10 +76,12 @@ fn rosters_of_sound_states() {
     let mut lengths = [[0u64; 2]; 71];
     let (mut ties, mut negative, mut positive, mut blocked, mut running) = (0, 0, 0, 0, 0);
     let (mut limit, mut largest, mut full) = (0, 0, 0);
+    // Best-effort threads, those that run, and those with something in the entry's allotment.
+    let mut others = [0u64; 3];
     for round in 0..24_000 {
         let s = sound_state(&mut r);
         // Every length for some, the nearest ones and a few more for all.
-        let count = s.count as usize;
+        let count = admitted(&s);
         let mut tried: Vec<usize> = if round % 12 == 0 {
             (0..=70).collect()
         } else {
@@ -100,7 +108,14 @@ fn rosters_of_sound_states() {
             let t = &s.threads[n];
             assert_eq!((row.lag as i128, row.share as u128), plainly(&s, n));
             assert!(row.lag.unsigned_abs() <= 1000 * METER_MAX && row.share <= 1000);
-            assert_eq!(row.allotment, t.allotment);
+            let best_effort = t.is_best_effort();
+            assert_eq!(row.allotment, if best_effort { 0 } else { t.allotment });
+            if best_effort {
+                assert_eq!(row.lag, 0);
+                others[0] += 1;
+                others[1] += (s.running == row.number) as u64;
+                others[2] += (t.allotment != 0) as u64;
+            }
             let state = if s.running == row.number {
                 2
             } else {
@@ -132,6 +147,7 @@ fn rosters_of_sound_states() {
         .iter()
         .all(|&n| n > 1_000));
     assert!(largest >= 999 * METER_LIMIT);
+    assert!(others.iter().all(|&n| n > 1_000), "{others:?}");
 }
 
 /// 16 on a state that is not sound, 7 for a number that is not admitted.
@@ -180,8 +196,9 @@ struct Account {
 }
 
 impl Account {
+    /// A best-effort thread has no reservation.
     fn lag(&self) -> i128 {
-        if self.blocked {
+        if self.blocked || self.reservation == 0 {
             0
         } else {
             self.reservation * self.growth[1] - 1000 * self.ticks[1]
@@ -247,6 +264,13 @@ fn follow(accounts: &mut [Account; 64], call: Call, running: u32) -> Option<usiz
             accounts[number as usize].anchor();
             Some(number as usize)
         }
+        Call::AdmitBestEffort { number, .. } => {
+            accounts[number as usize] = Account {
+                admitted: true,
+                ..Account::default()
+            };
+            Some(number as usize)
+        }
         Call::Open { .. } | Call::Close { .. } | Call::Dispatch => None,
     }
 }
@@ -256,8 +280,9 @@ fn follow(accounts: &mut [Account; 64], call: Call, running: u32) -> Option<usiz
 #[test]
 fn long_runs() {
     let mut r = Rng::new(63);
-    // Admissions, wakes, reports by reason, and changes.
-    let mut events = [0u64; 7];
+    // Admissions, wakes, reports by reason, changes, and admissions of best-effort threads.
+    let mut events = [0u64; 8];
+    let mut best_effort = BestEffort::default();
     let (mut late, mut changes) = (Late::default(), Changes::default());
     for run in 0..40 {
         let (m, p) = match run % 4 {
@@ -268,14 +293,17 @@ fn long_runs() {
         };
         let mut s = start(m, p, r.edgy(0, m - 1)).unwrap();
         let mut accounts = [Account::default(); 64];
+        let next = if run % 8 < 4 { call } else { quiet_call };
         for _ in 0..3_000 {
-            let c = call(&mut r, &s);
+            let c = next(&mut r, &s);
             let before = s;
-            if both(&mut s, c).answer != 0 {
+            let reply = both(&mut s, c);
+            if reply.answer != 0 {
                 continue;
             }
             late.call(&before, c, 0);
             changes.call(&before, c, 0);
+            best_effort.call(&before, c, reply, &s);
             let running = before.running;
             let Some(n) = follow(&mut accounts, c, running) else {
                 continue;
@@ -285,6 +313,7 @@ fn long_runs() {
                 Call::Wake { .. } => 1,
                 Call::Report { reason, .. } => 2 + reason as usize,
                 Call::Change { .. } => 6,
+                Call::AdmitBestEffort { .. } => 7,
                 _ => continue,
             }] += 1;
             let rows = roster(&s, 64).unwrap();
@@ -308,10 +337,19 @@ fn long_runs() {
             }
         }
     }
-    println!("admissions, wakes, reports by reason, changes: {events:?}");
+    println!("admissions, wakes, reports by reason, changes, best-effort: {events:?}");
     assert!(events.iter().all(|&n| n > 1_000), "{events:?}");
     assert!(late.overruns() > 1_000, "{late:?}");
     for sort in ["with a lag", "of a blocked thread", "the same amount"] {
-        assert!(changes.count(sort) > 200, "{changes:?}");
+        assert!(changes.count(sort) > 50, "{changes:?}");
+    }
+    for sort in [
+        "tick",
+        "block",
+        "yield",
+        "exit",
+        "woken below the virtual time",
+    ] {
+        assert!(best_effort.count(sort) > 100, "{best_effort:?}");
     }
 }

@@ -16,7 +16,7 @@ const FIELDS: usize = 6;
 fn used(kind: u8) -> [bool; FIELDS] {
     match kind {
         kind::OPEN | kind::ADMIT => [true, true, false, true, false, false],
-        kind::CHANGE => [true, false, false, true, false, false],
+        kind::CHANGE | kind::ADMIT_BEST_EFFORT => [true, false, false, true, false, false],
         kind::CLOSE | kind::REMOVE | kind::WAKE => [true, false, false, false, false, false],
         kind::REPORT => [false, false, true, false, true, false],
         kind::START => [false, false, false, true, true, true],
@@ -71,10 +71,10 @@ fn class(value: u64, largest: u64) -> usize {
 }
 
 /// Some kinds that there are not, the next ones among them.
-const UNKNOWN: [u8; 6] = [0, 10, 11, 16, 128, 255];
+const UNKNOWN: [u8; 6] = [0, 11, 12, 16, 128, 255];
 
 fn well_formed(r: &mut Rng) -> Record {
-    let kind = r.range(1, 9) as u8;
+    let kind = r.range(1, 10) as u8;
     let mut values = [0; FIELDS];
     for (i, &used) in used(kind).iter().enumerate() {
         if used {
@@ -95,7 +95,7 @@ fn formless(r: &mut Rng) -> Record {
             for (value, largest) in values.iter_mut().zip(LARGEST) {
                 *value = r.range(0, largest);
             }
-            record = record_of(r.bits() as u8 % 12, values);
+            record = record_of(r.bits() as u8 % 13, values);
         }
         _ => {
             let mut values = fields(&record);
@@ -171,9 +171,9 @@ struct Seen {
     counts: [u64; 41],
     lengths: [u64; 601],
     /// Fields of accepted records by kind, field and class.
-    accepted: [[[u64; 4]; FIELDS]; 10],
+    accepted: [[[u64; 4]; FIELDS]; 11],
     /// Unused fields that alone kept a record from having a form.
-    refused: [[[u64; 4]; FIELDS]; 10],
+    refused: [[[u64; 4]; FIELDS]; 11],
     /// Kinds of records that their kind alone kept from having a form.
     kinds: [u64; 256],
 }
@@ -194,7 +194,7 @@ impl Seen {
             return;
         };
         let values = fields(record);
-        if !(1..=9).contains(&record.kind) {
+        if !(1..=10).contains(&record.kind) {
             self.kinds[record.kind as usize] += 1;
             return;
         }
@@ -209,7 +209,7 @@ impl Seen {
 
     /// Every kind, field and class has occurred.
     fn whole(&self) {
-        for kind in 1..=9 {
+        for kind in 1..=10 {
             for (i, &used) in used(kind).iter().enumerate() {
                 let (accepted, refused) = (
                     &self.accepted[kind as usize][i],
@@ -225,7 +225,7 @@ impl Seen {
         for kind in UNKNOWN {
             assert!(self.kinds[kind as usize] > 50, "kind {kind}");
         }
-        assert!(self.kinds[1..=9].iter().all(|&n| n == 0));
+        assert!(self.kinds[1..=10].iter().all(|&n| n == 0));
     }
 }
 
@@ -236,8 +236,8 @@ fn writes_and_reads() {
         answers: [0; 20],
         counts: [0; 41],
         lengths: [0; 601],
-        accepted: [[[0; 4]; FIELDS]; 10],
-        refused: [[[0; 4]; FIELDS]; 10],
+        accepted: [[[0; 4]; FIELDS]; 11],
+        refused: [[[0; 4]; FIELDS]; 11],
         kinds: [0; 256],
     };
     let mut reads = [0u64; 20];

@@ -19,7 +19,7 @@ fn ruled(s: &Scheduler, number: u64, amount: u64) -> Result<Scheduler, u32> {
     let Some(t) = (number < 64).then(|| s.threads[number as usize]) else {
         return Err(7);
     };
-    if t.status == FREE {
+    if t.status == FREE || t.reservation == 0 {
         return Err(7);
     }
     if s.running as u64 == number {
@@ -28,10 +28,11 @@ fn ruled(s: &Scheduler, number: u64, amount: u64) -> Result<Scheduler, u32> {
     if amount == 0 || amount > 1_000 {
         return Err(4);
     }
-    let group = t.group;
+    let group = t.group_or_weight;
     let mut room = s.groups[group as usize].ceiling as i128;
     for (n, other) in s.threads.iter().enumerate() {
-        if other.status != FREE && other.group == group && n as u64 != number {
+        let reserved = other.status != FREE && other.reservation != 0;
+        if reserved && other.group_or_weight == group && n as u64 != number {
             room -= other.reservation as i128;
         }
     }
@@ -411,10 +412,9 @@ fn every_thread_of_random_states() {
         let s = sound_state(&mut r);
         for number in 0..65 {
             let mut amounts = vec![0, 1, 1_000, 1_001, r.edgy(0, 1_001), edge_value(&mut r)];
-            if let Some(t) = s.threads.get(number as usize).filter(|t| t.status != FREE) {
+            if let Some(t) = s.threads.get(number as usize).filter(|t| t.is_reserved()) {
                 let old = t.reservation as u64;
-                let free =
-                    s.groups[t.group as usize].ceiling as u64 - s.taken(t.group as usize) as u64;
+                let free = s.groups[t.group()].ceiling as u64 - s.taken(t.group()) as u64;
                 let filled = (t.allotment as u64).div_ceil(s.settings.thousandth as u64);
                 amounts.extend([old - 1, old, old + 1, filled - 1, filled, filled + 1]);
                 amounts.extend([free, free + 1, free + old, free + old + 1]);
@@ -449,11 +449,11 @@ fn changes_in_a_row() {
         let mut least = [1_000u64; 64];
         for _ in 0..r.range(1, 12) {
             let n = match dispatched.thread {
-                n if n < 64 && r.chance(1, 2) => n as u64,
+                n if s.list().contains(&(n as u8)) && r.chance(1, 2) => n as u64,
                 _ => r.pick(s.list()) as u64,
             };
             let t = &s.threads[n as usize];
-            let free = s.groups[t.group as usize].ceiling - s.taken(t.group as usize) as u16;
+            let free = s.groups[t.group()].ceiling - s.taken(t.group()) as u16;
             let amount = r.edgy(1, (free + t.reservation) as u64);
             s = tried.change(&s, n, amount);
             least[n as usize] = least[n as usize].min(amount);
@@ -475,6 +475,10 @@ fn changes_in_a_row() {
         let Some(&t) = s.threads.get(reply.thread as usize) else {
             continue;
         };
+        if t.is_best_effort() {
+            assert_eq!(reply, dispatched);
+            continue;
+        }
         assert_eq!(reply.slice as u64, (t.allotment as u64).min(p));
         shorter += (reply.slice < dispatched.slice) as u64;
         let used = reply.slice as u64;
@@ -594,7 +598,7 @@ fn records_of_kind_9() {
             ticks: 1 << 31,
             ..rec
         },
-        Record { kind: 10, ..rec },
+        Record { kind: 11, ..rec },
     ];
     for bad in formless {
         let mut area = [7; BLOCK_BYTES];

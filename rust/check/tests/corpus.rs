@@ -1,6 +1,7 @@
 //! What the fuzzer began with and what it has learnt, run again: the library's functions, `mtrrun`, `mtrwhy` and the
 //! model agree on each case.
 
+use check::best_effort::BestEffort;
 use check::changes::Changes;
 use check::journal::{self, case};
 use check::late::Late;
@@ -46,6 +47,7 @@ fn the_corpus() {
     let mut refused = [0u32; 21];
     let (mut late, mut changes) = (Late::default(), Changes::default());
     let mut shares = Shares::default();
+    let mut best_effort = BestEffort::default();
     for (place, recipe) in &recipes {
         let case = case(recipe);
         let wanted = journal::replay(&case.journal);
@@ -53,6 +55,7 @@ fn the_corpus() {
         assert!(found == wanted.printed.as_bytes(), "{place}");
         late.join(&wanted.late);
         changes.join(&wanted.changes);
+        best_effort.join(&wanted.best_effort);
         shares.join(wanted.shares);
         for line in wanted.printed.lines() {
             let words: Vec<&str> = line.split(' ').collect();
@@ -73,6 +76,13 @@ fn the_corpus() {
     // Changes of every sort: that cut, that leave the allotment, with 4, with 5 for one thousandth, with 7 and with 9.
     println!("{changes:?}");
     assert!(changes.rarer(1).is_empty(), "{changes:?}");
+    // Best-effort threads of every sort, but for what a journal can't reach: the meter's limit, and an allotment in their entries.
+    println!("{best_effort:?}");
+    let never = [
+        "15 where one is runnable",
+        "reported with another allotment than 0 in its entry",
+    ];
+    assert_eq!(best_effort.rarer(1), never, "{best_effort:?}");
     // Shares rounded either way, halves too.
     println!("{shares:?}");
     assert!(shares.all(1), "{shares:?}");
@@ -220,6 +230,45 @@ fn recipes_of_changes() {
     let records = read_block(&none, 0).unwrap();
     assert_eq!((records[0].subject, records[0].amount), (5, 1001));
     assert_eq!(replay(&none), "0 7 0 0 0\n");
+}
+
+/// Admissions of best-effort threads with their fields and in a byte, and reports of them by their distance from P.
+#[test]
+fn recipes_of_best_effort_threads() {
+    // Thread 5 with weight 16, 64 with 1, 3 with 17, 2 with 0x0102.
+    let list = [
+        2, 0, 0, 0x4f, 5, 16, 0, 0x4f, 64, 1, 0, 0x4f, 3, 17, 0, 0x4f, 2, 2, 1,
+    ];
+    let text = "0 0 0 0 0\n1 7 0 0 0\n2 4 0 0 0\n3 4 0 0 0\n";
+    assert_eq!(replay(&case(&list).journal), text);
+    // The first free number with weight 1, the fifth of the others, which is past 5, with weight 16; a dispatch, a report of one less than P, and
+    // the next dispatch.
+    let by = [0x6f, 0x00, 0x6f, 0x4f, 6, 12, 0, 0xff, 6];
+    let recipe = [&list[..], &by].concat();
+    let journal = case(&recipe).journal;
+    let records = read_block(&journal, 0).unwrap();
+    let fields = records[4..].iter().map(|r| (r.kind, r.subject, r.amount));
+    let wanted = [(10, 0, 1), (10, 6, 16), (6, 0, 0), (7, 0, 0), (6, 0, 0)];
+    assert!(fields.eq(wanted), "{records:?}");
+    assert_eq!(records[7].ticks, 19_999);
+    let lines = "4 0 0 0 0\n5 0 0 0 0\n6 0 0 20000 0\n7 0 0 0 0\n8 0 5 20000 0\n";
+    assert_eq!(replay(&journal), [text, lines].concat());
+    // Of all numbers taken the last.
+    let full: Vec<u8> = [2, 0, 0]
+        .into_iter()
+        .chain([0x6f, 0xf0].repeat(65))
+        .collect();
+    let printed = replay(&case(&full).journal);
+    assert_eq!(
+        printed.lines().filter(|line| line.contains(" 8 ")).count(),
+        1
+    );
+    assert_eq!(printed.lines().last(), Some("64 8 0 0 0"));
+    // A change by its distance where there is a best-effort thread of weight 16 and no list.
+    let change = case(&[2, 0, 0, 0x4f, 5, 16, 0, 0xee, 0x45, 0]).journal;
+    let records = read_block(&change, 0).unwrap();
+    assert_eq!((records[1].subject, records[1].amount), (5, 1000));
+    assert_eq!(replay(&change), "0 0 0 0 0\n1 7 0 0 0\n");
 }
 
 /// The bytes of the pieces choose the first question: among the dispatches, or any number up to a block past the end.

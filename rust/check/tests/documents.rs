@@ -1,10 +1,14 @@
 //! The documents name what is there: every section of docs/RULE.md that is
 //! cited exists, and so does every definition and theorem in docs/PROOFS.md.
 //! The published table of priorities is that of the code, the library and the model, and so is the standard table.
+//! The table of kinds is that of the library and the model, and the example of best-effort threads is what they, `mtrrun` and `mtrwhy` give.
 //! The examples of the manual page of `mtrwhy` print what stands there.
 
-use check::compare::to_model_table;
-use model::rule::priority;
+use check::compare::{both, start, to_library, to_model_table};
+use check::program::{self, Folder};
+use model::blocks::{fields, kind, write_block, Record, BLOCK};
+use model::calls::{record, Call};
+use model::rule::{priority, Reply, Scheduler, Thread};
 use mtr::{numbers, raw};
 use std::collections::BTreeSet;
 use std::fs;
@@ -277,6 +281,177 @@ fn the_standard_table() {
         assert_eq!(row.reservation, reservation.into());
     }
     assert_eq!(to_model_table(&table), model::table::standard());
+}
+
+/// The cells of the lines of a table, after the two of its head, and without the empty ones at both ends.
+fn rows<'a>(lines: impl Iterator<Item = &'a str>) -> Vec<Vec<&'a str>> {
+    let table = lines.filter(|line| line.starts_with('|')).skip(2);
+    table
+        .map(|row| {
+            let cells: Vec<&str> = row.split('|').map(str::trim).collect();
+            cells[1..cells.len() - 1].to_vec()
+        })
+        .collect()
+}
+
+/// RULE 7.4: each kind with its fields. The model's table is the same, and the library writes a record whose fields used hold anything, and
+/// none with another field set.
+#[test]
+fn the_table_of_kinds() {
+    let rule = read(&root().join("docs/RULE.md"));
+    let kinds = rows(part(&rule, "**7.4 ", "**7.5 "));
+    assert_eq!(kinds.len(), raw::KIND_BEST_EFFORT as usize);
+    for (i, row) in kinds.iter().enumerate() {
+        let [number, call, used] = row[..] else {
+            panic!("{row:?}");
+        };
+        let kind: u8 = number.parse().unwrap();
+        assert_eq!(kind as usize, i + 1);
+        let words: BTreeSet<&str> = used
+            .split(", ")
+            .filter_map(|field| field.split(' ').next())
+            .collect();
+        let uses = fields(kind).unwrap();
+        let sides = [
+            ("subject", uses.subject),
+            ("group", uses.group),
+            ("reason", uses.reason),
+            ("amount", uses.amount),
+            ("ticks", uses.ticks),
+            ("overrun", uses.overrun),
+        ];
+        for (name, uses) in sides {
+            assert_eq!(words.contains(name), uses, "{call}: {name}");
+            let record = numbers::Record {
+                kind,
+                subject: (name == "subject") as u8,
+                group: (name == "group") as u8,
+                reason: (name == "reason") as u8,
+                amount: (name == "amount") as u16,
+                overrun: (name == "overrun") as u16,
+                ticks: (name == "ticks") as u32,
+            };
+            let answer = numbers::write_block(&mut [0; BLOCK], 0, &[record]);
+            assert_eq!(answer, if uses { 0 } else { 19 }, "{call}: {name}");
+        }
+    }
+    let next = numbers::Record {
+        kind: kinds.len() as u8 + 1,
+        ..numbers::Record::default()
+    };
+    assert_eq!(numbers::write_block(&mut [0; BLOCK], 0, &[next]), 19);
+}
+
+/// A call as RULE 10.8 writes it: its name and its numbers.
+fn described(text: &str) -> Option<Call> {
+    let numbers: Vec<u64> = text
+        .split(|c: char| !c.is_ascii_digit())
+        .filter_map(|word| word.parse().ok())
+        .collect();
+    let name = text
+        .find(|c: char| c.is_ascii_digit())
+        .map(|at| &text[..at]);
+    Some(match (name.unwrap_or(text).trim(), &numbers[..]) {
+        ("admit best-effort", &[number, weight]) => Call::AdmitBestEffort { number, weight },
+        ("admit", &[number, group, reservation]) => Call::Admit {
+            number,
+            group,
+            reservation,
+        },
+        ("wake", &[number]) => Call::Wake { number },
+        ("dispatch", []) => Call::Dispatch,
+        ("report", &[reason, used]) => Call::Report { reason, used },
+        ("change", &[number, reservation]) => Call::Change {
+            number,
+            reservation,
+        },
+        ("start, m =", &[100, 20_000]) => return None,
+        _ => panic!("{text}"),
+    })
+}
+
+/// A number that is written in groups of three.
+fn grouped(text: &str) -> u64 {
+    text.replace(',', "").parse().unwrap()
+}
+
+/// RULE 10.8, line by line: the library beside the model, with the tags and the virtual time; as a journal `mtrrun` and `mtrwhy`.
+#[test]
+fn the_example_of_best_effort_threads() {
+    let rule = read(&root().join("docs/RULE.md"));
+    let text = || part(&rule, "**10.8 ", "**10.9 ");
+    let lines = rows(text());
+    assert_eq!(lines.len(), 30);
+    let mut s = Scheduler::default();
+    let mut records = Vec::new();
+    let mut printed = String::new();
+    for (i, row) in lines.iter().enumerate() {
+        let [line, call, two, nine, time, _] = row[..] else {
+            panic!("{row:?}");
+        };
+        let reply = match described(call) {
+            Some(call) => {
+                records.push(record(call));
+                both(&mut s, call)
+            }
+            None => {
+                s = start(100, 20_000, 0).unwrap();
+                records.push(Record {
+                    kind: kind::START,
+                    amount: 100,
+                    ticks: 20_000,
+                    ..Record::default()
+                });
+                Reply::default()
+            }
+        };
+        let (answer, thread) = (reply.answer, reply.thread);
+        let said = format!("{i} {answer} {thread} {} {}", reply.slice, reply.before);
+        assert_eq!(line, format!("`{said}`"));
+        printed += &format!("{said}\n");
+        for (number, cell) in [(2, two), (9, nine)] {
+            let t: &Thread = &s.threads[number];
+            assert_eq!(t.is_best_effort(), !cell.is_empty());
+            if !cell.is_empty() {
+                assert_eq!(t.tag, 240_240 * grouped(cell), "{line}");
+            }
+        }
+        assert_eq!(s.time, 240_240 * grouped(time), "{line}");
+    }
+    let end = text().collect::<Vec<_>>().join(" ");
+    for number in [s.threads[2].tag, s.threads[9].tag, s.time, s.meter] {
+        let mut digits = number.to_string();
+        for at in (1..digits.len())
+            .rev()
+            .filter(|at| (digits.len() - at) % 3 == 0)
+            .collect::<Vec<_>>()
+        {
+            digits.insert(at, ',');
+        }
+        assert!(end.contains(&digits), "{digits}");
+    }
+    let mut table = [numbers::Entry::default(); 3];
+    assert_eq!(numbers::roster(to_library(&s), &mut table), 0);
+    let found = table.map(|e| (e.number, e.lag, e.allotment, e.share));
+    let wanted = [(5, 10_000_000, 38_000, 88), (2, 0, 0, 401), (9, 0, 0, 511)];
+    assert_eq!(found, wanted);
+    assert!(end.contains("The roster is 5, 2, 9, with the allotments 38,000, 0 and 0 and the shares 88, 401 and 511."));
+
+    let mut journal = [0; BLOCK];
+    assert_eq!(write_block(&mut journal, 0, &records), 0);
+    assert_eq!(program::printed(&journal, &[BLOCK]), printed.as_bytes());
+    let folder = Folder::new("documents");
+    let path = folder.file("journal", &journal);
+    // Its last paragraph: what `mtrwhy` gives, in backquotes, before each number of a record.
+    let (_, causes) = end.split_once("`mtrwhy` gives ").unwrap();
+    let mut asked = 0;
+    for part in causes.split(" for record ").collect::<Vec<_>>().windows(2) {
+        let answer: Vec<&str> = part[0].split('`').skip(1).step_by(2).collect();
+        let wanted: String = answer.iter().map(|line| format!("{line}\n")).collect();
+        assert_eq!(program::answered(&path, number(part[1])), wanted.as_bytes());
+        asked += 1;
+    }
+    assert_eq!(asked, 5);
 }
 
 /// Runs a command at the root, with the proved programs on the path.

@@ -1,4 +1,4 @@
-//! The share guarantee measured: in a wake storm and over random stretches.
+//! The share guarantee measured: in a wake storm and over random stretches, with best-effort threads in the first state and among the calls.
 
 use std::io::Write;
 
@@ -62,6 +62,7 @@ struct Least {
 struct Stretches {
     m: i64,
     p: i64,
+    /// 0 where there is no reserved thread: no other is first or second.
     reservation: [i64; 64],
     /// Ticks of all accepted reports, and those that count for each thread.
     work: i64,
@@ -98,6 +99,9 @@ struct Totals {
     /// both, were given their own again.
     changed: u64,
     again: [u64; 2],
+    /// Checks right after a report of a best-effort thread, and those in which more is owed than the first limit without f × P.
+    best_effort: u64,
+    interval: u64,
 }
 
 impl Totals {
@@ -120,6 +124,8 @@ impl Totals {
         self.changed += other.changed;
         self.again[0] += other.again[0];
         self.again[1] += other.again[1];
+        self.best_effort += other.best_effort;
+        self.interval += other.interval;
     }
 }
 
@@ -142,14 +148,20 @@ impl Stretches {
         Stretches {
             m: s.settings.thousandth as i64,
             p: s.settings.interval as i64,
-            reservation: s.threads.map(|t| t.reservation as i64),
+            reservation: s.threads.map(|t| {
+                if t.is_reserved() {
+                    t.reservation as i64
+                } else {
+                    0
+                }
+            }),
             work: 0,
             had: [0; 64],
             overruns: 0,
             over: [0; 64],
             named: s.running,
-            first: s.threads.map(|t| t.status == RUNNABLE),
-            second: s.threads.map(|t| t.status != 0),
+            first: s.threads.map(|t| t.is_reserved() && t.status == RUNNABLE),
+            second: s.threads.map(|t| t.is_reserved()),
             changed: [false; 64],
             again: [[false; 64]; 2],
             least: [none(), none(), none()],
@@ -214,12 +226,20 @@ impl Stretches {
                 self.first[number as usize] = false;
                 self.second[number as usize] = false;
             }
-            Call::Wake { number } => self.begin_first(number as usize),
+            Call::AdmitBestEffort { number, .. } => self.reservation[number as usize] = 0,
+            Call::Wake { number } => {
+                if self.reservation[number as usize] > 0 {
+                    self.begin_first(number as usize);
+                }
+            }
             Call::Dispatch => self.named = reply.thread,
             Call::Report { reason, used } => {
                 // The slice that the thread had, from the state alone.
                 let t = &before.threads[self.named as usize];
-                let slice = (t.allotment as i64).min(self.p);
+                let slice = match t.reservation {
+                    0 => self.p,
+                    _ => (t.allotment as i64).min(self.p),
+                };
                 self.report(reason, used as i64, (used as i64 - slice).max(0));
             }
             Call::Change { number, .. } => {
@@ -262,6 +282,7 @@ impl Stretches {
                 self.check(a, n);
                 self.totals.others += (overrun > 0 && a != n) as u64;
                 self.totals.own += (overrun > 0 && a == n) as u64;
+                self.totals.best_effort += (self.reservation[n] == 0) as u64;
                 self.totals.changed += self.changed[a] as u64;
                 self.totals.again[0] += self.again[0][a] as u64;
             }
@@ -277,7 +298,7 @@ impl Stretches {
                 }
             }
         }
-        if reason == 2 {
+        if reason == 2 && self.reservation[n] > 0 {
             self.begin_first(n);
         }
     }
@@ -296,6 +317,7 @@ impl Stretches {
             p,
             checks: 1,
         };
+        self.totals.interval += (theirs > limit.allowed - f * p) as u64;
         self.totals.add(0, limit, [none, own]);
         if self.second[n] && a != n {
             let [theirs, none, own] =
@@ -325,6 +347,10 @@ fn say(name: &str, totals: &Totals) {
     let Totals { changed, again, .. } = totals;
     lines +=
         &format!("{name}: {changed} checks where others changed, {again:?} with the own again\n");
+    let (after, more) = (totals.best_effort, totals.interval);
+    lines += &format!(
+        "{name}: {after} checks after a best-effort thread, {more} exceed the limit without P\n"
+    );
     let _ = std::io::stderr().write_all(lines.as_bytes());
 }
 
@@ -345,6 +371,10 @@ fn admit(number: u64, reservation: u64) -> Call {
     }
 }
 
+fn weigh(number: u64, weight: u64) -> Call {
+    Call::AdmitBestEffort { number, weight }
+}
+
 fn change(number: u64, reservation: u64) -> Call {
     Call::Change {
         number,
@@ -354,24 +384,55 @@ fn change(number: u64, reservation: u64) -> Call {
 
 const READOUT: u64 = 1;
 const EXPORTER: u64 = 2;
+/// The first of the best-effort threads, above all others.
+const PRINTER: u64 = 60;
 
 /// From these styles of a storm on timers fire late, and reservations change.
 const LATE: u64 = 7;
 const CHANGING: u64 = 10;
 
-/// Readout holds 500 and never blocks. The exporter blocks in every run and is
-/// woken at every dispatch, before it or after it. Readout's bound holds at
-/// every report, over every stretch that ends there, and the library's lag is
-/// what it is owed. The others' reservations may change between reports.
-fn storm(r: &mut Rng, exporter: u64, others: u64, style: u64, totals: &mut Totals) {
+/// m, P and O of a style of storm.
+fn settings(r: &mut Rng, style: u64) -> (u64, u64, u64) {
     let (m, p) = match style {
         0 | 3 | 6 | 7 | 10 => (100, 20_000),
         1 | 4 => (1, 7),
         8 => (10, 50),
         _ => (r.range(2, 100), r.range(1_000, 1_000_000)),
     };
-    let o = if style < LATE { 0 } else { r.edgy(1, m - 1) };
+    (m, p, if style < LATE { 0 } else { r.edgy(1, m - 1) })
+}
+
+/// Two best-effort threads, of which the first runs.
+fn print(s: &mut Scheduler, weight: u64) {
+    for number in [PRINTER, PRINTER + 1] {
+        assert_eq!(both(s, weigh(number, weight)).answer, 0);
+    }
+    assert_eq!(both(s, Call::Dispatch).thread as u64, PRINTER);
+}
+
+/// Changes the reservation of any listed thread but readout.
+fn change_another(r: &mut Rng, s: &mut Scheduler, stretches: &mut Stretches) {
+    let n = r.pick(s.list()) as u64;
+    let room = 1000 - s.taken(0) as u64 + s.threads[n as usize].reservation as u64;
+    if n != READOUT {
+        let c = change(n, r.edgy(1, room));
+        assert_eq!(step(s, stretches, c).answer, 0);
+    }
+}
+
+/// Readout holds 500 and never blocks. The exporter blocks in every run and is
+/// woken at every dispatch, before it or after it. Readout's bound holds at
+/// every report, over every stretch that ends there, and the library's lag is
+/// what it is owed. The others' reservations may change between reports. In every
+/// other storm a best-effort thread runs at the beginning, for all that it may, and
+/// others are there and come; none of them is dispatched again.
+fn storm(r: &mut Rng, exporter: u64, others: u64, style: u64, totals: &mut Totals) {
+    let (m, p, o) = settings(r, style);
     let mut s = start(m, p, o).unwrap();
+    let printing = style % 2 == 1;
+    if printing {
+        print(&mut s, 1 + style);
+    }
     for (number, reservation) in [(READOUT, 500), (EXPORTER, exporter)]
         .into_iter()
         .chain((0..others).map(|n| (10 + n, (500 - exporter) / others)))
@@ -383,14 +444,18 @@ fn storm(r: &mut Rng, exporter: u64, others: u64, style: u64, totals: &mut Total
     let (mut work, mut had, mut runs) = (0, 0, 0);
     // Ticks beyond the slice: of the others, and readout's own.
     let mut over = [0, 0];
-    for _ in 0..8_000 {
+    if printing {
+        let (reason, used) = (0, p + o);
+        step(&mut s, &mut stretches, Call::Report { reason, used });
+        (work, over[0]) = (used as i64, o as i64);
+    }
+    for turn in 0..8_000 {
+        if printing && turn < 2 {
+            let answer = step(&mut s, &mut stretches, weigh(PRINTER + 2, 16)).answer;
+            assert_eq!(answer, [0, 8][turn]);
+        }
         if style >= CHANGING && r.chance(1, 2) {
-            let n = r.pick(s.list()) as u64;
-            let room = 1000 - s.taken(0) as u64 + s.threads[n as usize].reservation as u64;
-            if n != READOUT {
-                let c = change(n, r.edgy(1, room));
-                assert_eq!(step(&mut s, &mut stretches, c).answer, 0);
-            }
+            change_another(r, &mut s, &mut stretches);
         }
         let asleep = s.threads[EXPORTER as usize].status == BLOCKED;
         let late = r.chance(1, 2);
@@ -399,7 +464,7 @@ fn storm(r: &mut Rng, exporter: u64, others: u64, style: u64, totals: &mut Total
         }
         let reply = step(&mut s, &mut stretches, Call::Dispatch);
         let thread = reply.thread as u64;
-        assert!(reply.answer == 0 && thread < 64);
+        assert!(reply.answer == 0 && thread < PRINTER);
         if asleep && late {
             assert_eq!(step(&mut s, &mut stretches, wake).answer, 0);
         }
@@ -427,13 +492,13 @@ fn storm(r: &mut Rng, exporter: u64, others: u64, style: u64, totals: &mut Total
         had += if thread == READOUT { used as i64 } else { 0 };
         over[(thread == READOUT) as usize] += used.saturating_sub(slice) as i64;
         let owed = 500 * work - 1000 * had;
-        let (m, p) = (m as i64, p as i64);
-        assert!(owed <= 2 * 500 * 500 * m + 500 * p + 500 * over[0]);
+        assert!(owed <= (2 * 500 * 500 * m + 500 * p) as i64 + 500 * over[0]);
         assert_eq!(numbers::lag(to_library(&s), READOUT).result(), Ok(owed));
     }
     assert!(runs > 20 && had > 0, "{runs} runs of the exporter");
     assert_eq!(over.iter().all(|&ticks| ticks > 0), style >= LATE);
     assert_eq!(stretches.totals.changed > 1_000, style >= CHANGING);
+    assert_eq!(stretches.totals.best_effort > 0, printing);
     totals.join(&stretches.totals);
 }
 
@@ -493,7 +558,7 @@ fn starving_change(r: &mut Rng, s: &Scheduler, target: usize) -> Call {
         None => target,
     };
     let t = &s.threads[n];
-    let (group, old) = (t.group as usize, t.reservation as u64);
+    let (group, old) = (t.group(), t.reservation as u64);
     let reservation = if n == target && !r.chance(1, 60) {
         old
     } else if waiting.first() == Some(&n) {
@@ -531,7 +596,8 @@ fn sparing_call(r: &mut Rng, s: &Scheduler) -> Call {
 }
 
 /// A state in which all is reserved, and its first thread: the others full and mostly before it, and mostly little
-/// left to it. No interval is longer than needed: its part of the first limit is small then.
+/// left to it. No interval is longer than needed: its part of the first limit is small then. In half of them a best-effort
+/// thread runs.
 fn crowded(r: &mut Rng) -> (Scheduler, usize) {
     let m = r.edgy(1, 1_000);
     let others = r.range(1, 40);
@@ -555,6 +621,12 @@ fn crowded(r: &mut Rng) -> (Scheduler, usize) {
     s.settings.interval = (longest * m) as u32;
     let quantum = s.threads[63].allotment as u64;
     s.threads[63].allotment = r.edgy(1, quantum) as i32;
+    if r.chance(1, 2) {
+        for n in 50..r.range(51, 54) {
+            assert_eq!(both(&mut s, weigh(n, r.edgy(1, 16))).answer, 0);
+        }
+        s.running = 50;
+    }
     (s, 63)
 }
 
@@ -593,6 +665,8 @@ fn random_stretches() {
     assert!(totals.exceeded.iter().flatten().all(|&n| n > 1_000));
     // So are others' changes, and changes of the first and the second thread to what they have.
     assert!(totals.changed > 1_000_000 && totals.again.iter().all(|&n| n > 100_000));
+    // A best-effort thread that runs at the beginning counts.
+    assert!(totals.best_effort > 10_000 && totals.interval > 1_000);
 }
 
 /// Dispatches, expects a thread and its slice, and reports.
@@ -647,6 +721,56 @@ fn the_second_limit_needs_the_overruns() {
     let (had, second, overruns) = (1, 5_009 + 5_000, 9 + 9);
     let limit = g * had + 2 * f * g * m;
     assert!(f * second > limit && f * second <= limit + f * overruns);
+}
+
+/// A best-effort thread runs for P at the beginning of the stretch, and the first limit needs its last term: without others it is reached to
+/// the tick, and with another thread, full and before the first, which has a tick left, nearly so.
+#[test]
+fn the_first_limit_needs_the_interval() {
+    for (p, o) in [(20_000, 0), (1, 0), (1_000_000, 0), (20_000, 99)] {
+        let mut s = start(100, p, o).unwrap();
+        assert_eq!(both(&mut s, weigh(9, 1)).answer, 0);
+        assert_eq!(both(&mut s, Call::Dispatch).thread, 9);
+        assert_eq!(both(&mut s, admit(1, 1000)).answer, 0);
+        // The stretch begins. Its others' overruns are o.
+        let used = p + o;
+        assert_eq!(both(&mut s, Call::Report { reason: 0, used }).answer, 0);
+        let owed = numbers::lag(to_library(&s), 1).result().unwrap() as u64;
+        assert_eq!(owed, 1000 * p + 1000 * o);
+        assert_eq!(both(&mut s, Call::Dispatch).thread, 1);
+    }
+
+    let (f, m, p) = (500, 100, 20_000);
+    let mut s = start(m, p, 0).unwrap();
+    for (number, reservation) in [(2, 500), (1, 500)] {
+        assert_eq!(both(&mut s, admit(number, reservation)).answer, 0);
+    }
+    run(&mut s, 2, 20_000, 1, 0);
+    run(&mut s, 1, 20_000, 0, 20_000);
+    run(&mut s, 1, 20_000, 0, 20_000);
+    run(&mut s, 1, 10_000, 1, 9_999);
+    assert_eq!(both(&mut s, weigh(9, 16)).answer, 0);
+    assert_eq!(both(&mut s, Call::Dispatch).thread, 9);
+    for number in [1, 2] {
+        assert_eq!(both(&mut s, Call::Wake { number }).answer, 0);
+    }
+    // The stretch begins.
+    let report = Call::Report { reason: 0, used: p };
+    assert_eq!(both(&mut s, report).answer, 0);
+    let mut sums = Sums {
+        all: p,
+        ..Sums::default()
+    };
+    sums.run(&mut s, 2, &[20_000, 20_000, 10_000]);
+    sums.run(&mut s, 1, &[1]);
+    sums.run(&mut s, 2, &[20_000, 20_000, 10_000]);
+    let owed = f * sums.all - 1000 * sums.first;
+    let limit = 2 * f * (1000 - f) * m;
+    assert_eq!(
+        (owed, limit, limit + f * p),
+        (59_999_500, 50_000_000, 60_000_000)
+    );
+    assert_eq!(numbers::lag(to_library(&s), 1).result(), Ok(owed as i64));
 }
 
 /// What counts in a stretch from its beginning on: ticks of all, of thread 1 and of thread 2.

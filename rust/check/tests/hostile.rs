@@ -1,7 +1,9 @@
 //! A hostile host: arbitrary bytes and arguments to every exported function, compared with the model,
 //! and lent memory against pages that nobody may touch.
 
-use check::attack::{Attack, ALLOTMENTS, ANSWERS, FUNCTIONS, LIMITS, ORIGINS, ROUNDS, SEED};
+use check::attack::{
+    Attack, ALLOTMENTS, ANSWERS, FUNCTIONS, LIMITS, ORIGINS, PROPERTIES, ROUNDS, SEED,
+};
 use check::compare::to_model_table;
 use check::faults;
 use check::guard::{Guarded, Side};
@@ -37,10 +39,16 @@ fn a_million_calls() {
     assert_eq!(tables.rarer(&sorts(), 40), [], "{tables:?}");
     assert!(tables.outside > 1_000 && attack.standard > 1_000);
     for (origin, [unsound, sound]) in ORIGINS.iter().zip(attack.states) {
-        // Bytes all at random are never sound; the others are both, but for the last.
+        // Bytes all at random and states that are sound but for one condition are never sound; the last ones are always.
+        let never = ["any bytes", "sound but for one condition"].contains(origin);
         assert_eq!(unsound > 1_000, *origin != "sound", "{origin}");
-        assert_eq!(sound > 1_000, *origin != "any bytes", "{origin}");
+        assert_eq!(sound > 1_000, !never, "{origin}");
+        assert!(sound == 0 || !never, "{origin}");
     }
+    // Each condition of soundness alone.
+    assert!(attack.broken.len() > 60, "{}", attack.broken.len());
+    let rare = attack.broken.iter().filter(|(_, &n)| n < 200);
+    assert_eq!(rare.count(), 0, "{:?}", attack.broken);
     // Every overrun limit and every allotment that a state can't have, and those that it can.
     let limits = LIMITS.iter().zip(&attack.limits);
     let allotments = ALLOTMENTS.iter().zip(&attack.allotments);
@@ -48,6 +56,14 @@ fn a_million_calls() {
         assert!(*unsound > 100, "{name}: {unsound}");
         assert_eq!(*sound > 100, *can, "{name}: {sound}");
     }
+    // Tags at, beside and between their bounds, weights, the virtual time, and what no one looks at in either kind of entry.
+    for ((name, can, _), [unsound, sound]) in PROPERTIES.iter().zip(attack.properties) {
+        assert!(unsound > 100, "{name}: {unsound}");
+        assert_eq!(sound > 100, *can, "{name}: {sound}");
+        assert!(sound == 0 || *can, "{name}: {sound}");
+    }
+    let best_effort = attack.best_effort;
+    assert!(best_effort.rarer(20).is_empty(), "{best_effort:?}");
     let late = attack.late;
     assert!(late.all_reports(10) && late.all_starts(100), "{late:?}");
     // Changes that cut, that leave the allotment, of every thread and group, to the thousandth and beyond it.

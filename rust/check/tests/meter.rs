@@ -1,4 +1,5 @@
-//! A journal that fills the meter: 20 million records, 330 MB, made as they are read. Its last dispatches answer 15.
+//! A journal that fills the meter: 20 million records, 330 MB, made as they are read. Its last dispatches answer 15. Its one thread is a
+//! reserved one, or a best-effort one of weight 1, whose tag is then 720,720 times the meter, as great as a tag can be.
 
 use check::program::{mtrwhy, root, silent};
 use model::blocks::{kind, write_block, Record, BLOCK, RECORDS};
@@ -15,8 +16,15 @@ const REPORTS: u64 = 10_000_001;
 /// Records in all: start, admit, a dispatch before each report, and two dispatches more.
 const ALL: u64 = 2 + 2 * REPORTS + 2;
 
+/// The journal's thread.
+#[derive(Clone, Copy)]
+enum Kind {
+    Reserved,
+    BestEffort,
+}
+
 /// The record of a number.
-fn nth(n: u64) -> Record {
+fn nth(kind: Kind, n: u64) -> Record {
     let (reason, used) = match n / 2 {
         1 => (YIELD, 999_999),
         REPORTS => (TICK, 1_000_999),
@@ -30,10 +38,16 @@ fn nth(n: u64) -> Record {
             overrun: 999,
             ..Record::default()
         },
-        1 => record(Call::Admit {
-            number: 0,
-            group: 0,
-            reservation: 1000,
+        1 => record(match kind {
+            Kind::Reserved => Call::Admit {
+                number: 0,
+                group: 0,
+                reservation: 1000,
+            },
+            Kind::BestEffort => Call::AdmitBestEffort {
+                number: 0,
+                weight: 1,
+            },
         }),
         _ if n.is_multiple_of(2) || n >= ALL - 2 => record(Call::Dispatch),
         _ => record(Call::Report { reason, used }),
@@ -41,10 +55,20 @@ fn nth(n: u64) -> Record {
 }
 
 /// The journal's bytes, from its beginning.
-#[derive(Default)]
 struct Journal {
+    kind: Kind,
     place: u64,
     block: Vec<u8>,
+}
+
+impl Journal {
+    fn new(kind: Kind) -> Journal {
+        Journal {
+            kind,
+            place: 0,
+            block: Vec::new(),
+        }
+    }
 }
 
 impl Read for Journal {
@@ -52,7 +76,7 @@ impl Read for Journal {
         let first = RECORDS as u64 * self.place;
         if self.block.is_empty() && first < ALL {
             let numbers = first..ALL.min(first + RECORDS as u64);
-            let records: Vec<Record> = numbers.map(nth).collect();
+            let records: Vec<Record> = numbers.map(|n| nth(self.kind, n)).collect();
             self.block = vec![0; BLOCK];
             assert_eq!(write_block(&mut self.block, self.place as u32, &records), 0);
             self.place += 1;
@@ -65,12 +89,12 @@ impl Read for Journal {
 }
 
 /// Writes the journal, or as much as is read.
-fn feed(to: ChildStdin) {
+fn feed(kind: Kind, to: ChildStdin) {
     let mut to = io::BufWriter::with_capacity(1 << 16, to);
-    let _ = io::copy(&mut Journal::default(), &mut to).and_then(|_| to.flush());
+    let _ = io::copy(&mut Journal::new(kind), &mut to).and_then(|_| to.flush());
 }
 
-fn asked(number: u64) -> String {
+fn asked(kind: Kind, number: u64) -> String {
     let mut child = mtrwhy()
         .args(["/dev/stdin", &number.to_string()])
         .stdin(Stdio::piped())
@@ -78,11 +102,11 @@ fn asked(number: u64) -> String {
         .stderr(Stdio::piped())
         .spawn()
         .unwrap();
-    feed(child.stdin.take().unwrap());
+    feed(kind, child.stdin.take().unwrap());
     let found = silent(child.wait_with_output().unwrap());
     assert_eq!(
         found,
-        why_from_with::<false, _>(Journal::default(), number).unwrap()
+        why_from_with::<false, _>(Journal::new(kind), number).unwrap()
     );
     String::from_utf8(found).unwrap()
 }
@@ -90,13 +114,28 @@ fn asked(number: u64) -> String {
 /// The last dispatch that is accepted, and the first that is not.
 #[test]
 fn causes() {
-    assert_eq!(asked(ALL - 4), "0 0\n");
-    assert_eq!(asked(ALL - 2), "15 10000001000998\n");
+    assert_eq!(asked(Kind::Reserved, ALL - 4), "0 0\n");
+    assert_eq!(asked(Kind::Reserved, ALL - 2), "15 10000001000998\n");
+}
+
+#[test]
+fn causes_of_best_effort() {
+    assert_eq!(asked(Kind::BestEffort, ALL - 4), "0 0\n");
+    assert_eq!(asked(Kind::BestEffort, ALL - 2), "15 10000001000998\n");
 }
 
 /// The last lines of the replay.
 #[test]
 fn lines() {
+    last_lines(Kind::Reserved);
+}
+
+#[test]
+fn lines_of_best_effort() {
+    last_lines(Kind::BestEffort);
+}
+
+fn last_lines(kind: Kind) {
     let mut child = Command::new(root().join("target/bin/mtrrun"))
         .stdin(Stdio::piped())
         .stdout(Stdio::piped())
@@ -105,7 +144,7 @@ fn lines() {
     let (to, mut from) = (child.stdin.take().unwrap(), child.stdout.take().unwrap());
     let mut last = Vec::new();
     std::thread::scope(|scope| {
-        scope.spawn(|| feed(to));
+        scope.spawn(|| feed(kind, to));
         let mut buffer = vec![0; 1 << 16];
         loop {
             let count = from.read(&mut buffer).unwrap();

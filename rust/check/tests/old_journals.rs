@@ -1,12 +1,13 @@
 //! Journals of earlier versions: `mtrrun` and the model's replay print for each, to the byte, what the `mtrrun` of its version printed, and
-//! `mtrwhy` answers as the model does.
-//! Those of 1.1.0 are from before there was an overrun limit, those of 2.0.0 from before there was a change of a reservation.
-//! journals-1.1/README.md and journals-2.0/README.md say where they are from.
+//! `mtrwhy` answers as the model does, and as the `mtrwhy` of the version did where it had one.
+//! Those of 1.1.0 are from before there was an overrun limit, those of 2.0.0 from before there was a change of a reservation, and those of
+//! 2.4.0 from before there were best-effort threads. The README.md in each folder says where they are from.
 
 use std::collections::BTreeMap;
 use std::fs;
 use std::path::PathBuf;
 
+use check::changes::Changes;
 use check::journal;
 use check::late::Late;
 use check::program::{answered, printed, root};
@@ -17,9 +18,14 @@ use model::replay::{replay, replay_with};
 use model::why::why;
 
 /// The folders, with how many journals are in each.
-const FOLDERS: [(&str, usize); 2] = [(BEFORE_OVERRUNS, 40), (BEFORE_CHANGES, 20)];
+const FOLDERS: [(&str, usize); 3] = [
+    (BEFORE_OVERRUNS, 40),
+    (BEFORE_CHANGES, 20),
+    (BEFORE_BEST_EFFORT, 31),
+];
 const BEFORE_OVERRUNS: &str = "journals-1.1";
 const BEFORE_CHANGES: &str = "journals-2.0";
+const BEFORE_BEST_EFFORT: &str = "journals-2.4";
 
 /// The files of a folder with this ending, by name.
 fn stored(folder: &str, ending: &str) -> BTreeMap<String, Vec<u8>> {
@@ -79,7 +85,11 @@ fn print_as_before() {
         let wanted: Vec<u32> = (0..=14).chain([20]).collect();
         assert!(answers.keys().eq(&wanted), "{answers:?}");
         assert!(refusals.keys().eq(&[17, 18, 19]), "{refusals:?}");
-        let least = if count == 40 { (10, 5) } else { (5, 2) };
+        let least = match folder {
+            BEFORE_OVERRUNS => (10, 5),
+            BEFORE_CHANGES => (5, 2),
+            _ => (2, 2),
+        };
         assert!(answers.values().all(|&n| n >= least.0), "{answers:?}");
         assert!(refusals.values().all(|&n| n >= least.1), "{refusals:?}");
     }
@@ -105,35 +115,83 @@ fn the_same_causes() {
         }
     }
     println!("{seen:?}");
-    assert!(rarer(&seen, 3).is_empty(), "{seen:?}");
+    let mut rare = rarer(&seen, 3);
+    rare.retain(|sort| !sort.of_best_effort());
+    assert!(rare.is_empty(), "{seen:?}");
 }
 
-/// They are old: no start of the first has an overrun limit, and none has a change. Those of the second have limits, and overruns of every
-/// kind.
+/// What the `mtrwhy` of 2.4.0 printed for every number of its journals: `mtrwhy` and the model print the same.
+#[test]
+fn the_same_causes_as_before() {
+    let mut seen = Sorts::new();
+    let journals = stored(BEFORE_BEST_EFFORT, "blocks");
+    let causes = stored(BEFORE_BEST_EFFORT, "why");
+    assert!(journals.keys().eq(causes.keys()));
+    for (name, journal) in &journals {
+        let path = root().join(format!("rust/check/{BEFORE_BEST_EFFORT}/{name}.blocks"));
+        let text = String::from_utf8(causes[name].clone()).unwrap();
+        let sorts = sorts(journal);
+        let mut numbers = 0;
+        for (n, part) in text.split("record ").skip(1).enumerate() {
+            let (number, answer) = part.split_once('\n').unwrap();
+            assert_eq!(number, n.to_string());
+            let found = answered(&path, number);
+            assert!(found == answer.as_bytes(), "mtrwhy, {name}, {n}");
+            assert!(why(journal, n as u64) == answer.as_bytes(), "{name}, {n}");
+            *seen.entry(sort_of(&sorts, n as u64)).or_default() += 1;
+            numbers += 1;
+        }
+        assert_eq!(numbers, 31 * journal.len().div_ceil(BLOCK) + 1);
+    }
+    println!("{seen:?}");
+    let mut rare = rarer(&seen, 10);
+    rare.retain(|sort| !sort.of_best_effort());
+    assert!(rare.is_empty(), "{seen:?}");
+}
+
+/// They are old: no start of the first has an overrun limit, neither these nor the second have a change, and none has a best-effort thread.
+/// Those of the second and the third have limits, and overruns of every kind; those of the third every kind of record that there was, and
+/// changes of every kind.
 #[test]
 fn are_as_old_as_they_say() {
     let mut starts = [0; 2];
-    let mut late = Late::default();
+    let mut late = [Late::default(); 2];
+    let mut changes = Changes::default();
+    let mut kinds = Counts::new();
     for (folder, _) in FOLDERS {
+        let last = folder == BEFORE_BEST_EFFORT;
         for (name, journal) in stored(folder, "blocks") {
             for record in records(&journal) {
-                assert_ne!(record.kind, kind::CHANGE, "{name}");
-                assert!(record.overrun == 0 || folder == BEFORE_CHANGES, "{name}");
+                assert!(record.kind <= kind::CHANGE, "{name}");
+                assert!(record.kind != kind::CHANGE || last, "{name}");
+                assert!(record.overrun == 0 || folder != BEFORE_OVERRUNS, "{name}");
                 if record.kind == kind::START {
                     starts[(record.overrun > 0) as usize] += 1;
                 }
+                if last {
+                    *kinds.entry(record.kind.into()).or_default() += 1;
+                }
             }
-            if folder == BEFORE_CHANGES {
-                late.join(&journal::replay(&journal).late);
+            if folder != BEFORE_OVERRUNS {
+                let replayed = journal::replay(&journal);
+                late[last as usize].join(&replayed.late);
+                changes.join(&replayed.changes);
             }
         }
     }
     assert!(starts[0] > 100 && starts[1] > 70, "{starts:?}");
-    assert!(late.all_reports(1) && late.all_starts(1), "{late:?}");
-    assert!(late.overruns() > 200, "{late:?}");
+    for late in late {
+        assert!(late.all_reports(1) && late.all_starts(1), "{late:?}");
+        assert!(late.overruns() > 80, "{late:?}");
+    }
+    println!("{kinds:?} {changes:?}");
+    assert!(kinds.keys().copied().eq(1..=9) && kinds.values().all(|&n| n > 20));
+    // What concerns best-effort threads is missing.
+    let rare = changes.rarer(1);
+    assert!(rare.len() == 4 && rare.iter().all(|sort| sort.contains("best-effort")));
 }
 
-/// What is printed now for the journal that has changes.
+/// What is printed now for the block that has changes, and after it.
 const READ: &str = "\
 31 0 0 0 0
 32 7 0 0 0
@@ -179,4 +237,68 @@ fn a_block_with_changes_is_read_now() {
     let now = journal::replay(journal).printed;
     assert_eq!(now, [first, READ, last].concat());
     assert_eq!(printed(journal, &[1 << 20]), now.as_bytes());
+}
+
+/// The same of best-effort threads.
+const READ_BEST_EFFORT: &str = "\
+31 0 0 0 0
+32 8 0 0 0
+33 7 0 0 0
+34 4 0 0 0
+35 0 0 0 0
+36 0 2 20000 2
+37 0 0 0 0
+38 0 9 20000 2
+39 0 0 0 0
+40 0 2 20000 2
+41 0 0 0 0
+42 0 64 0 4
+62 0 0 0 0
+63 0 5 20000 0
+64 0 0 0 0
+65 0 0 0 0
+66 0 9 20000 2
+67 0 0 0 0
+68 0 64 0 3
+";
+
+/// What `mtrwhy` answers there now: of numbers for which it gave 21.
+const CAUSES: [(u64, &str); 5] = [
+    (36, "0 2\n5 4\n7 6\n"),
+    (38, "0 9\n5 4\n7 6\n"),
+    (42, "0 64\n5 4\n7 6\n2 41\n9 39\n"),
+    (63, "0 5\n"),
+    (68, "0 64\n5 64\n7 6\n2 41\n"),
+];
+
+/// The one thing that changed for a reader of journals since: a block with best-effort threads is read.
+#[test]
+fn a_block_with_best_effort_threads_is_read_now() {
+    let folder = format!("{BEFORE_BEST_EFFORT}/apart");
+    let (journals, texts) = (stored(&folder, "blocks"), stored(&folder, "txt"));
+    assert!(journals.keys().eq(["best_effort"]) && texts.keys().eq(["best_effort"]));
+    let journal = &journals["best_effort"];
+    let records = records(journal);
+    assert_eq!(records.iter().filter(|r| r.kind == 10).count(), 5);
+    let before = String::from_utf8(texts["best_effort"].clone()).unwrap();
+    let (first, rest) = before.split_once("block 1 19\n").unwrap();
+    let (refused, last) = rest.split_once("93 0 0 0 0\n").unwrap();
+    assert_eq!((first.lines().count(), refused.lines().count()), (8, 7));
+    assert!(refused.lines().all(|line| line.ends_with(" 20 0 0 0")));
+    let now = journal::replay(journal).printed;
+    assert_eq!(
+        now,
+        [first, READ_BEST_EFFORT, "93 0 0 0 0\n", last].concat()
+    );
+    assert_eq!(printed(journal, &[1 << 20]), now.as_bytes());
+    let path = root().join(format!("rust/check/{folder}/best_effort.blocks"));
+    let causes = String::from_utf8(stored(&folder, "why")["best_effort"].clone()).unwrap();
+    for (n, wanted) in CAUSES {
+        assert!(causes.contains(&format!("\nrecord {n}\n21\nrecord ")));
+        assert_eq!(
+            String::from_utf8(answered(&path, n.to_string())).unwrap(),
+            wanted
+        );
+        assert_eq!(why(journal, n), wanted.as_bytes());
+    }
 }

@@ -1,7 +1,8 @@
 //! The program `mtrrun` against the model's replay: the same bytes on standard output for the same bytes on standard input.
 
+use check::best_effort::BestEffort;
 use check::changes::Changes;
-use check::program::{printed, root};
+use check::program::{printed, root, shipped};
 use model::random::{journal, Rng};
 use model::replay::replay;
 
@@ -26,11 +27,11 @@ fn empty_input() {
 
 #[test]
 fn shipped_journals() {
-    for name in ["listing", "steady", "exporter", "late"] {
-        let input = std::fs::read(root().join(format!("examples/journals/{name}.blocks"))).unwrap();
+    for path in shipped() {
+        let input = std::fs::read(&path).unwrap();
         let out = whole(&input);
         assert!(!out.is_empty());
-        assert_eq!(out, replay(&input), "{name}");
+        assert_eq!(out, replay(&input), "{}", path.display());
     }
 }
 
@@ -39,13 +40,15 @@ fn generated_journals() {
     let mut rng = Rng::new(6);
     let mut refused_blocks = 0;
     let mut answers = [0u32; 21];
-    let mut changes = Changes::default();
+    let (mut changes, mut best_effort) = (Changes::default(), BestEffort::default());
     for round in 0..3000 {
         let input = journal(&mut rng);
         let expected = replay(&input);
         assert_eq!(whole(&input), expected, "journal {round}");
         if round < 300 {
-            changes.join(&check::journal::replay(&input).changes);
+            let replayed = check::journal::replay(&input);
+            changes.join(&replayed.changes);
+            best_effort.join(&replayed.best_effort);
         }
         for line in expected.split(|&b| b == b'\n') {
             let text = std::str::from_utf8(line).unwrap();
@@ -64,6 +67,15 @@ fn generated_journals() {
     assert_eq!(answers[15] + answers[16..20].iter().sum::<u32>(), 0);
     assert!(refused_blocks > 100);
     assert!(changes.rarer(5).is_empty(), "{changes:?}");
+    // What a short journal does not reach.
+    let never = [
+        "admitted under the last free number",
+        "15 where one is runnable",
+        "reported with another allotment than 0 in its entry",
+    ];
+    let mut rare = best_effort.rarer(1);
+    rare.retain(|sort| !never.contains(sort));
+    assert!(rare.is_empty(), "{best_effort:?}");
 }
 
 #[test]

@@ -1,8 +1,8 @@
 //! The stack that a call takes, measured on a painted stack: below its limit, and as it is stated.
 
-/// No call takes more than this, and a roster not more than that.
-const MOST: usize = 12_000;
-const MOST_ROSTER: usize = 15_000;
+/// No call takes more than this, and a dispatch and a roster not more than that.
+const MOST: usize = 14_000;
+const MOST_OF_TWO: usize = 17_000;
 
 /// What the header's table and docs/PERFORMANCE.md may state above what is measured.
 const SPARE: usize = 600;
@@ -21,16 +21,19 @@ fn stated() -> Vec<(String, usize)> {
 #[test]
 fn within_its_limit() {
     let measured = check::stack::measured(300);
-    assert_eq!(measured.len(), 18);
+    assert_eq!(measured.len(), 19);
     for (name, taken) in &measured {
-        let most = if *name == "roster" { MOST_ROSTER } else { MOST };
+        let most = match *name {
+            "dispatch" | "roster" => MOST_OF_TWO,
+            _ => MOST,
+        };
         assert!(
             *taken <= most,
             "{name} takes {taken} bytes of stack, of {most}"
         );
     }
     // By calls that take a state the state itself is taken, and the test of it.
-    assert!(measured.iter().filter(|m| m.1 > 5_000).count() == 13);
+    assert!(measured.iter().filter(|m| m.1 > 5_000).count() == 14);
 }
 
 #[test]

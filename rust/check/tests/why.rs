@@ -1,6 +1,6 @@
 //! The program `mtrwhy` against the model: the same bytes on standard output for the same journal and number.
 
-use check::program::{answered, mtrwhy, root, silent, Folder};
+use check::program::{answered, mtrwhy, root, shipped, silent, Folder};
 use check::why::{drawn, rarer, sort_of, sorts, Named, Sort, Sorts, FAR};
 use model::blocks::{kind, read_block, write_block, Record, BLOCK, RECORDS};
 use model::calls::{apply, record, Call};
@@ -65,13 +65,13 @@ fn compare(
 #[test]
 fn generated_journals() {
     let seen = compare("generated", journal, 50, 1000, 20);
-    assert!(rarer(&seen, 50).is_empty(), "{seen:?}");
+    assert!(rarer(&seen, 5).is_empty(), "{seen:?}");
 }
 
 #[test]
 fn journals_with_many_blocked() {
     let seen = compare("blocking", blocking, 51, 1000, 20);
-    assert_eq!(rarer(&seen, 300), [Sort::InShort], "{seen:?}");
+    assert_eq!(rarer(&seen, 100), [Sort::InShort], "{seen:?}");
     assert!(rarer(&seen, 5).is_empty(), "{seen:?}");
 }
 
@@ -79,8 +79,7 @@ fn journals_with_many_blocked() {
 fn shipped_journals() {
     let mut r = Rng::new(52);
     let mut seen = Sorts::new();
-    for name in ["listing", "steady", "exporter", "late", "raised"] {
-        let path = root().join(format!("examples/journals/{name}.blocks"));
+    for path in shipped() {
         let input = std::fs::read(&path).unwrap();
         let sorts = sorts(&input);
         for n in drawn(&mut r, &sorts) {
@@ -144,7 +143,7 @@ fn odd_pieces() {
         }
     }
     println!("{seen:?}");
-    assert!(rarer(&seen, 10).is_empty(), "{seen:?}");
+    assert!(rarer(&seen, 5).is_empty(), "{seen:?}");
 }
 
 /// A pipe with a name.

@@ -25,6 +25,7 @@ pub mod kind {
     pub const REPORT: u8 = raw::KIND_REPORT;
     pub const START: u8 = raw::KIND_START;
     pub const CHANGE: u8 = raw::KIND_CHANGE;
+    pub const BEST_EFFORT: u8 = raw::KIND_BEST_EFFORT;
 }
 
 /// Reasons of a report, as a record has them.

@@ -1,12 +1,36 @@
 //! What a journal is run on: [`Proved`], the proved library, which is the only
 //! one that the command `journal` has.
 
-use mtr::{Dispatch, Event, Scheduler};
+use mtr::{raw, Dispatch, Event, Scheduler};
 
 pub use mtr::raw::METER_LIMIT;
 pub use mtr::Settings;
 
-use crate::codec::{answer, Record, NONE};
+use crate::codec::{answer, Record, NONE, THREADS};
+
+/// What a thread is admitted as.
+#[derive(Clone, Copy, Debug, PartialEq, Eq)]
+pub enum Class {
+    /// With thousandths of the core, in a group and in the list.
+    Reserved { reservation: u64, group: u8 },
+    /// With a weight, for the time that reserved threads leave.
+    BestEffort { weight: u64 },
+}
+
+impl Class {
+    pub fn is_best_effort(self) -> bool {
+        matches!(self, Class::BestEffort { .. })
+    }
+
+    /// The most that the share guarantee lets its lag be, without overruns. A
+    /// best-effort thread has no lag.
+    pub fn bound(self, settings: Settings) -> i64 {
+        match self {
+            Class::Reserved { reservation, .. } => bound(reservation, settings),
+            Class::BestEffort { .. } => 0,
+        }
+    }
+}
 
 /// Answers records and keeps the accounts. A fresh one has the default
 /// settings and no threads.
@@ -18,14 +42,14 @@ pub trait Engine: Default {
     fn run(&mut self, record: &Record) -> Reply;
 
     /// f × (meter since the anchor) − 1000 × (ticks since the anchor); 0 while
-    /// blocked, and 0 for a number that is not admitted.
+    /// blocked, 0 for a best-effort thread and for a number that is not admitted.
     fn lag(&self, thread: u8) -> i64;
 
     /// Achieved share in thousandths, of an admitted thread.
     fn share(&self, thread: u8) -> Option<u64>;
 
-    /// Reservation in thousandths and group, of an admitted thread.
-    fn place(&self, thread: u8) -> Option<(u64, u8)>;
+    /// What an admitted thread is.
+    fn class(&self, thread: u8) -> Option<Class>;
 
     /// m, P and O.
     fn settings(&self) -> Settings;
@@ -33,15 +57,22 @@ pub trait Engine: Default {
     /// The running thread.
     fn running(&self) -> Option<u8>;
 
-    /// All admitted threads, front of the list first.
+    /// All reserved threads, front of the list first.
     fn list(&self) -> &[u8];
+
+    /// All best-effort threads, by number.
+    fn best_effort(&self) -> impl Iterator<Item = u8> + '_ {
+        let effort = |n: &u8| self.class(*n).is_some_and(Class::is_best_effort);
+        (0..THREADS as u8).filter(effort)
+    }
 
     /// Ticks of all accepted reports since the start.
     fn meter(&self) -> u64;
 }
 
 /// What a record is answered: 0 or the refusal, and for an accepted dispatch
-/// the thread, its slice and how many threads stood before it.
+/// the thread, its slice and how many reserved threads stood before it; where it
+/// is idle the number of all threads.
 #[derive(Clone, Copy, Debug, PartialEq, Eq, Default)]
 pub struct Reply {
     pub answer: u32,
@@ -67,6 +98,12 @@ pub fn bound(reservation: u64, settings: Settings) -> i64 {
     let (m, p) = (u64::from(settings.thousandth), u64::from(settings.interval));
     let f = reservation;
     (2 * f * (1000 - f) * m + f * p) as i64
+}
+
+/// The most by which the ticks of two best-effort threads, each times the
+/// other's weight, differ while both stay runnable: (v + w)(P + O).
+pub fn apart(v: u64, w: u64, settings: Settings) -> u64 {
+    (v + w) * (u64::from(settings.interval) + u64::from(settings.overrun))
 }
 
 /// Version of the proved library, as it is told.
@@ -117,10 +154,18 @@ impl Engine for Proved {
         self.state.share(thread).ok().map(u64::from)
     }
 
-    fn place(&self, thread: u8) -> Option<(u64, u8)> {
-        let admitted = self.state.list().contains(&thread);
+    fn class(&self, thread: u8) -> Option<Class> {
         let entry = self.state.as_raw().threads.get(thread as usize)?;
-        admitted.then_some((entry.reservation.into(), entry.group))
+        match (entry.status, entry.reservation) {
+            (raw::STATUS_FREE, _) => None,
+            (_, 0) => Some(Class::BestEffort {
+                weight: entry.group_or_weight.into(),
+            }),
+            (_, reservation) => Some(Class::Reserved {
+                reservation: reservation.into(),
+                group: entry.group_or_weight,
+            }),
+        }
     }
 
     fn settings(&self) -> Settings {

@@ -1,15 +1,16 @@
 //! Words for answers.
 
 use crate::codec::{answer, kind, Record};
-use crate::engine::Settings;
+use crate::engine::{Class, Engine};
 
-/// Why a record was refused under the settings in force. Overruns are spoken of
-/// where the record or the settings allow some.
-pub fn refusal(record: &Record, number: u32, settings: Settings) -> &'static str {
+/// Why a record was refused, by the engine that refused it. Overruns are spoken
+/// of where the record or the settings allow some.
+pub fn refusal<E: Engine>(record: &Record, number: u32, engine: &E) -> &'static str {
     let late = match record.kind {
         kind::START => record.overrun > 0,
-        _ => settings.overrun > 0,
+        _ => engine.settings().overrun > 0,
     };
+    let class = engine.class(record.subject);
     match (number, record.kind) {
         (answer::SETTINGS, _) if late => "m, P or O outside its range",
         (answer::SETTINGS, _) => "m or P outside its range",
@@ -20,12 +21,16 @@ pub fn refusal(record: &Record, number: u32, settings: Settings) -> &'static str
             "the number is above 15, already open or not above the parent's"
         }
         (answer::AMOUNT, kind::OPEN) => "ceiling outside 1 to 1000",
+        (answer::AMOUNT, kind::BEST_EFFORT) => "weight outside 1 to 16",
         (answer::AMOUNT, _) => "reservation outside 1 to 1000",
         (answer::ROOM, kind::OPEN) => "more than the parent has free",
         (answer::ROOM, kind::CHANGE) => "more than the group has free, its own included",
         (answer::ROOM, _) => "more than the group has free",
         (answer::GROUP_IN_USE, _) => "the group has a thread or a child",
-        (answer::THREAD, kind::ADMIT) => "number above 63",
+        (answer::THREAD, kind::ADMIT | kind::BEST_EFFORT) => "number above 63",
+        (answer::THREAD, kind::CHANGE) if class.is_some_and(Class::is_best_effort) => {
+            "a best-effort thread has no reservation"
+        }
         (answer::THREAD, _) => "number above 63 or not admitted",
         (answer::ADMITTED, _) => "already admitted",
         (answer::RUNS, _) => "it is running",

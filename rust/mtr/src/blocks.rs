@@ -70,6 +70,12 @@ pub enum Event {
         thread: u8,
         reservation: u16,
     },
+    /// A best-effort thread. Since version 3.0.0; an older reader refuses the
+    /// whole block.
+    AdmitBestEffort {
+        thread: u8,
+        weight: u16,
+    },
 }
 
 impl From<Event> for Record {
@@ -139,6 +145,12 @@ impl From<Event> for Record {
                 amount: reservation,
                 ..zero
             },
+            Event::AdmitBestEffort { thread, weight } => Record {
+                kind: raw::KIND_BEST_EFFORT,
+                subject: thread,
+                amount: weight,
+                ..zero
+            },
         }
     }
 }
@@ -182,6 +194,10 @@ impl TryFrom<Record> for Event {
             raw::KIND_CHANGE => Event::Change {
                 thread: record.subject,
                 reservation: record.amount,
+            },
+            raw::KIND_BEST_EFFORT => Event::AdmitBestEffort {
+                thread: record.subject,
+                weight: record.amount,
             },
             _ => return Err(Refusal::Form),
         };

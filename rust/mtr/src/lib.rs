@@ -28,6 +28,10 @@
 //! # Ok::<(), Refusal>(())
 //! ```
 //!
+//! A thread with a reservation stands in the list. A best-effort thread has a
+//! weight instead and shares, by weight, the time that no reserved thread
+//! takes: [`admit_best_effort`](Scheduler::admit_best_effort).
+//!
 //! Below the types, [`numbers`] has the same functions on numbers, and [`raw`]
 //! the declarations that are generated from the library's sources.
 

@@ -36,6 +36,12 @@ pub fn admit(state: Scheduler, number: u64, group: u64, reservation: u64) -> Rep
     raw::mtr_by_value_admit(state, number, group, reservation)
 }
 
+/// Admits a best-effort thread with a weight of 1 to 16.
+#[inline]
+pub fn admit_best_effort(state: Scheduler, number: u64, weight: u64) -> Reply {
+    raw::mtr_by_value_admit_best_effort(state, number, weight)
+}
+
 /// Removes a thread that does not run.
 #[inline]
 pub fn remove(state: Scheduler, number: u64) -> Reply {
@@ -48,7 +54,8 @@ pub fn wake(state: Scheduler, number: u64) -> Reply {
     raw::mtr_by_value_wake(state, number)
 }
 
-/// Takes the first runnable thread of the list, or is idle with thread 64.
+/// Takes the first runnable thread of the list, or else the best-effort thread
+/// whose turn it is, or is idle with thread 64.
 #[inline]
 pub fn dispatch(state: Scheduler) -> Reply {
     raw::mtr_by_value_dispatch(state)
@@ -61,7 +68,7 @@ pub fn report(state: Scheduler, reason: u64, used: u64) -> Reply {
     raw::mtr_by_value_report(state, reason, used)
 }
 
-/// Changes the reservation of a thread that does not run.
+/// Changes the reservation of a reserved thread that does not run.
 #[inline]
 pub fn change(state: Scheduler, number: u64, reservation: u64) -> Reply {
     raw::mtr_by_value_change(state, number, reservation)

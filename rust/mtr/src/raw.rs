@@ -32,13 +32,13 @@ macro_rules! layout {
 // The version; mtr_version answers that of the library.
 
 /// Major.
-pub const VERSION_MAJOR: u32 = 2;
+pub const VERSION_MAJOR: u32 = 3;
 /// Minor.
-pub const VERSION_MINOR: u32 = 4;
+pub const VERSION_MINOR: u32 = 0;
 /// Patch.
 pub const VERSION_PATCH: u32 = 0;
 /// One number: 10000 times the major, 100 times the minor, and the patch.
-pub const VERSION: u32 = 20400;
+pub const VERSION: u32 = 30000;
 
 // Numbers of threads, groups and rows, and the parts of a block.
 
@@ -77,6 +77,12 @@ pub const MOST_THOUSANDTH: u32 = 1000;
 pub const MOST_INTERVAL: u32 = 1000000;
 /// The greatest O, which the greatest m allows; with any m it is m - 1.
 pub const MOST_OVERRUN: u32 = 999;
+/// The least weight of a best-effort thread.
+pub const LEAST_WEIGHT: u32 = 1;
+/// The greatest weight of a best-effort thread.
+pub const MOST_WEIGHT: u32 = 16;
+/// What a tick adds to the tag of a best-effort thread of weight 1.
+pub const TAG_UNIT: u32 = 720720;
 
 // Limits of the meter and of priorities.
 
@@ -99,14 +105,15 @@ pub const REFUSED_SETTINGS: u32 = 1;
 pub const REFUSED_NO_GROUP: u32 = 2;
 /// The group's number is above 15, already open or not above the parent's.
 pub const REFUSED_GROUP_NUMBER: u32 = 3;
-/// The ceiling, reservation or priority, or a table's number of rows, is
-/// outside its range.
+/// The ceiling, reservation, weight or priority, or a table's number of rows,
+/// is outside its range.
 pub const REFUSED_AMOUNT: u32 = 4;
 /// The ceiling or reservation exceeds what the group has free.
 pub const REFUSED_NO_ROOM: u32 = 5;
 /// The group has a thread or a child.
 pub const REFUSED_GROUP_IN_USE: u32 = 6;
-/// The thread's number is above 63 or not admitted.
+/// The thread's number is above 63 or not admitted, or the thread whose
+/// reservation is to be changed is a best-effort one.
 pub const REFUSED_NO_THREAD: u32 = 7;
 /// The thread is already admitted.
 pub const REFUSED_ALREADY_ADMITTED: u32 = 8;
@@ -146,7 +153,8 @@ pub const REFUSED_TABLE_COVER: u32 = 23;
 pub const REASON_TICK: u64 = 0;
 /// It blocks until it is woken.
 pub const REASON_BLOCK: u64 = 1;
-/// It moves to the rear with a full allotment, less its debt.
+/// It moves to the rear with a full allotment, less its debt; for a best-effort
+/// thread it is as a tick.
 pub const REASON_YIELD: u64 = 2;
 /// It leaves the list and frees its number.
 pub const REASON_EXIT: u64 = 3;
@@ -196,6 +204,8 @@ pub const KIND_REPORT: u8 = 7;
 pub const KIND_START: u8 = 8;
 /// Changes a thread's reservation: subject, amount (the reservation).
 pub const KIND_CHANGE: u8 = 9;
+/// Admits a best-effort thread: subject, amount (the weight).
+pub const KIND_BEST_EFFORT: u8 = 10;
 
 /// What an answer says, in words.
 pub const fn answer_text(answer: u32) -> &'static str {
@@ -209,11 +219,13 @@ pub const fn answer_text(answer: u32) -> &'static str {
             "the group's number is above 15, already open or not above the parent's"
         }
         REFUSED_AMOUNT => {
-            "the ceiling, reservation or priority, or a table's number of rows, is outside its range"
+            "the ceiling, reservation, weight or priority, or a table's number of rows, is outside its range"
         }
         REFUSED_NO_ROOM => "the ceiling or reservation exceeds what the group has free",
         REFUSED_GROUP_IN_USE => "the group has a thread or a child",
-        REFUSED_NO_THREAD => "the thread's number is above 63 or not admitted",
+        REFUSED_NO_THREAD => {
+            "the thread's number is above 63 or not admitted, or the thread whose reservation is to be changed is a best-effort one"
+        }
         REFUSED_ALREADY_ADMITTED => "the thread is already admitted",
         REFUSED_THREAD_RUNNING => "the thread to remove or to change is running",
         REFUSED_NOT_BLOCKED => "the thread to wake is not blocked",
@@ -239,8 +251,11 @@ pub const fn answer_text(answer: u32) -> &'static str {
 
 /// A thread. status: 0 free, 1 runnable, 2 blocked. admission and anchor are
 /// the meter at admission and at the anchor; ticks and since are the thread's
-/// ticks since each. In a sound state the allotment of an admitted thread is 1
-/// to its quantum.
+/// ticks since each. An admitted thread with a reservation is a reserved one:
+/// group_or_weight is its group, and in a sound state its allotment is 1 to its
+/// quantum. One whose reservation is 0 is a best-effort thread: group_or_weight
+/// is its weight, 1 to 16, its allotment is not looked at, and tag is its start
+/// tag while it is runnable, its last finish tag while it is blocked.
 #[repr(C)]
 #[derive(Clone, Copy, Debug, PartialEq, Eq, Default)]
 pub struct Thread {
@@ -250,20 +265,22 @@ pub struct Thread {
     pub since: u64,
     pub allotment: i32,
     pub reservation: u16,
-    pub group: u8,
+    pub group_or_weight: u8,
     pub status: u8,
+    pub tag: u64,
 }
 
 layout! {
-    Thread = 40, 8;
+    Thread = 48, 8;
     admission = 0, 8;
     anchor = 8, 8;
     ticks = 16, 8;
     since = 24, 8;
     allotment = 32, 4;
     reservation = 36, 2;
-    group = 38, 1;
+    group_or_weight = 38, 1;
     status = 39, 1;
+    tag = 40, 8;
 }
 
 /// A group. opened: 0 closed, 1 open.
@@ -301,7 +318,8 @@ layout! {
 }
 
 /// The list is the first `count` entries of `order`, front first. running: the
-/// running thread's number, or 64.
+/// running thread's number, or 64. time: the virtual time, the start tag of the
+/// last best-effort thread that was dispatched.
 #[repr(C)]
 #[derive(Clone, Copy, Debug, PartialEq, Eq)]
 pub struct Scheduler {
@@ -309,20 +327,22 @@ pub struct Scheduler {
     pub order: [u8; 64],
     pub groups: [Group; 16],
     pub meter: u64,
+    pub time: u64,
     pub settings: Settings,
     pub count: u32,
     pub running: u32,
 }
 
 layout! {
-    Scheduler = 2712, 8;
-    threads = 0, 2560;
-    order = 2560, 64;
-    groups = 2624, 64;
-    meter = 2688, 8;
-    settings = 2696, 8;
-    count = 2704, 4;
-    running = 2708, 4;
+    Scheduler = 3232, 8;
+    threads = 0, 3072;
+    order = 3072, 64;
+    groups = 3136, 64;
+    meter = 3200, 8;
+    time = 3208, 8;
+    settings = 3216, 8;
+    count = 3224, 4;
+    running = 3228, 4;
 }
 
 /// What a call answers, with the state after it. answer: 0 accepted, or the
@@ -339,12 +359,12 @@ pub struct Reply {
 }
 
 layout! {
-    Reply = 2728, 8;
+    Reply = 3248, 8;
     answer = 0, 4;
     thread = 4, 4;
     slice = 8, 4;
     before = 12, 4;
-    state = 16, 2712;
+    state = 16, 3232;
 }
 
 /// The reservation of a priority. answer: 0, or the refusal; the reservation is
@@ -456,7 +476,8 @@ layout! {
 }
 
 /// A record of the roster. state: 0 runnable, 1 blocked, 2 running. The
-/// allotment is at least 1.
+/// allotment of a reserved thread is at least 1; that of a best-effort thread
+/// is shown as 0, and so is its lag.
 #[repr(C)]
 #[derive(Clone, Copy, Debug, PartialEq, Eq, Default)]
 pub struct Entry {
@@ -596,8 +617,22 @@ unsafe extern "C" {
         reservation: u64,
     ) -> Reply;
 
-    /// Removes a thread that does not run: takes it off the list and frees its
-    /// number and reservation.
+    /// Admits a best-effort thread with a weight: runnable, in no group and
+    /// outside the list. It runs while no reserved thread is runnable, and
+    /// shares that time with the other best-effort threads by weight.
+    ///
+    /// Refuses, the first that applies:
+    /// - 16 [`REFUSED_UNSOUND`]: the state is not sound
+    /// - 7 [`REFUSED_NO_THREAD`]: the number is above 63
+    /// - 8 [`REFUSED_ALREADY_ADMITTED`]: the thread is already admitted
+    /// - 4 [`REFUSED_AMOUNT`]: the weight is outside 1 to 16
+    ///
+    /// The state is then unchanged. Accepted, only the thread's entry changes.
+    pub safe fn mtr_by_value_admit_best_effort(state: Scheduler, number: u64, weight: u64)
+        -> Reply;
+
+    /// Removes a thread that does not run: frees its number and reservation,
+    /// and takes a reserved thread off the list.
     ///
     /// Refuses, the first that applies:
     /// - 16 [`REFUSED_UNSOUND`]: the state is not sound
@@ -608,7 +643,8 @@ unsafe extern "C" {
     /// others' mutual order are unchanged, and so are the groups.
     pub safe fn mtr_by_value_remove(state: Scheduler, number: u64) -> Reply;
 
-    /// Makes a blocked thread runnable.
+    /// Makes a blocked thread runnable. A best-effort thread has saved up
+    /// nothing while it was blocked.
     ///
     /// Refuses, the first that applies:
     /// - 16 [`REFUSED_UNSOUND`]: the state is not sound
@@ -620,9 +656,11 @@ unsafe extern "C" {
     pub safe fn mtr_by_value_wake(state: Scheduler, number: u64) -> Reply;
 
     /// Takes the first runnable thread of the list to run for its slice, the
-    /// smaller of its allotment and P. Answers the thread, the slice and how
-    /// many threads, all blocked, stood before it; or idle, thread 64 with
-    /// slice 0 and the length of the list, if no thread is runnable.
+    /// smaller of its allotment and P; where none of the list is runnable, the
+    /// runnable best-effort thread with the smallest tag, of equal ones the one
+    /// with the lowest number, for P. Answers the thread, the slice and how
+    /// many reserved threads, all blocked, stood before it; or idle, thread 64
+    /// with slice 0 and the number of all threads, if no thread is runnable.
     ///
     /// Refuses, the first that applies:
     /// - 16 [`REFUSED_UNSOUND`]: the state is not sound
@@ -630,7 +668,8 @@ unsafe extern "C" {
     /// - 15 [`REFUSED_METER_FULL`]: the meter is at least 10000000000000
     ///
     /// The state is then unchanged. Accepted, only the number of the running
-    /// thread changes, and nothing if idle.
+    /// thread and, of a best-effort one, the virtual time change, and nothing
+    /// if idle.
     pub safe fn mtr_by_value_dispatch(state: Scheduler) -> Reply;
 
     /// Charges the running thread the ticks used and ends its run. Up to O
@@ -639,7 +678,9 @@ unsafe extern "C" {
     /// added to it once, so that a debt is kept, and the thread moves to the
     /// rear. Reasons: 0 tick, the thread stays runnable; 1 block; 2 yield,
     /// which moves to the rear and, where something is left, fills the
-    /// allotment; 3 exit, which frees the thread's number and reservation.
+    /// allotment; 3 exit, which frees the thread's number and reservation. A
+    /// best-effort thread has no allotment and no place: its tag grows by
+    /// 720720 / weight for each tick.
     ///
     /// Refuses, the first that applies:
     /// - 16 [`REFUSED_UNSOUND`]: the state is not sound
@@ -658,7 +699,8 @@ unsafe extern "C" {
     ///
     /// Refuses, the first that applies:
     /// - 16 [`REFUSED_UNSOUND`]: the state is not sound
-    /// - 7 [`REFUSED_NO_THREAD`]: the number is above 63 or not admitted
+    /// - 7 [`REFUSED_NO_THREAD`]: the number is above 63, or its thread is not
+    ///   admitted or a best-effort one
     /// - 9 [`REFUSED_THREAD_RUNNING`]: the thread is running
     /// - 4 [`REFUSED_AMOUNT`]: the reservation is outside 1 to 1000
     /// - 5 [`REFUSED_NO_ROOM`]: the reservation exceeds what the thread's group
@@ -720,9 +762,10 @@ unsafe extern "C" {
     pub safe fn mtr_standard_table() -> PriorityTable;
 
     /// A thread's lag: its reservation times the meter's growth since its
-    /// anchor, less 1000 times its own ticks since; 0 while it is blocked. The
-    /// anchor is its admission, its last wake, its last yield or the last
-    /// change of its reservation, whichever came last.
+    /// anchor, less 1000 times its own ticks since; 0 while it is blocked, and
+    /// 0 of a best-effort thread. The anchor is its admission, its last wake,
+    /// its last yield or the last change of its reservation, whichever came
+    /// last.
     ///
     /// Refuses, the first that applies:
     /// - 16 [`REFUSED_UNSOUND`]: the state is not sound
@@ -743,7 +786,8 @@ unsafe extern "C" {
     pub safe fn mtr_by_value_share(state: Scheduler, number: u64) -> ShareLine;
 
     /// Fills a lent table with the record of every admitted thread, largest lag
-    /// first, equal lags by lower number.
+    /// first, equal lags by lower number. A best-effort thread's lag and
+    /// allotment are 0.
     ///
     /// Refuses, the first that applies:
     /// - 16 [`REFUSED_UNSOUND`]: the state is not sound

@@ -82,6 +82,42 @@ impl Scheduler {
         ))
     }
 
+    /// Admits a best-effort thread: runnable, in no group and outside the list.
+    /// It is dispatched only while no reserved thread is runnable, for the
+    /// preemption interval, and shares that time with the other best-effort
+    /// threads by weight, 1 to 16. A thread of weight 2 gets twice what one of
+    /// weight 1 gets, so long as both are runnable; while it is blocked it saves
+    /// nothing up. It is woken, reported and removed like any other thread; its
+    /// lag and allotment are 0. Refused with [`NoThread`](Refusal::NoThread),
+    /// [`AlreadyAdmitted`](Refusal::AlreadyAdmitted) or
+    /// [`Amount`](Refusal::Amount).
+    ///
+    /// ```
+    /// use mtr::{Dispatch, Reason, Refusal, Scheduler};
+    ///
+    /// let mut scheduler = Scheduler::default();
+    /// scheduler.admit(5, 0, 1000)?;
+    /// scheduler.admit_best_effort(40, 1)?;
+    /// assert_eq!(scheduler.admit_best_effort(41, 17), Err(Refusal::Amount));
+    ///
+    /// let run = |thread, before| Dispatch::Run { thread, slice: 20_000, before };
+    /// assert_eq!(scheduler.dispatch()?, run(5, 0));
+    /// scheduler.report(Reason::Block, 300)?;
+    ///
+    /// // The one reserved thread is blocked.
+    /// assert_eq!(scheduler.dispatch()?, run(40, 1));
+    /// scheduler.report(Reason::Block, 50)?;
+    /// assert_eq!(scheduler.dispatch()?, Dispatch::Idle { before: 2 });
+    /// # Ok::<(), Refusal>(())
+    /// ```
+    pub fn admit_best_effort(&mut self, thread: u8, weight: u16) -> Result<(), Refusal> {
+        self.take(numbers::admit_best_effort(
+            self.state,
+            thread.into(),
+            weight.into(),
+        ))
+    }
+
     /// Removes a thread that does not run. Refused with
     /// [`NoThread`](Refusal::NoThread) or
     /// [`ThreadRunning`](Refusal::ThreadRunning).
@@ -89,14 +125,17 @@ impl Scheduler {
         self.take(numbers::remove(self.state, thread.into()))
     }
 
-    /// Makes a blocked thread runnable; it keeps its place and allotment.
-    /// Refused with [`NoThread`](Refusal::NoThread) or
-    /// [`NotBlocked`](Refusal::NotBlocked).
+    /// Makes a blocked thread runnable; it keeps its place and allotment. While
+    /// a best-effort thread runs, a woken reserved one waits for the run in
+    /// hand, and the next dispatch takes a reserved thread. Refused with
+    /// [`NoThread`](Refusal::NoThread) or [`NotBlocked`](Refusal::NotBlocked).
     pub fn wake(&mut self, thread: u8) -> Result<(), Refusal> {
         self.take(numbers::wake(self.state, thread.into()))
     }
 
-    /// Takes the first runnable thread of the list, or is idle. Refused with
+    /// Takes the first runnable thread of the list; where there is none, the
+    /// runnable best-effort thread with the smallest tag, of equal ones the one
+    /// with the lowest number; or is idle. Refused with
     /// [`Busy`](Refusal::Busy) or [`MeterFull`](Refusal::MeterFull).
     pub fn dispatch(&mut self) -> Result<Dispatch, Refusal> {
         let reply = numbers::dispatch(self.state);
@@ -147,12 +186,13 @@ impl Scheduler {
         ))
     }
 
-    /// Changes the reservation of a thread that does not run. The thread keeps
+    /// Changes the reservation of a reserved thread that does not run. It keeps
     /// its place, and stays blocked if it is. Its allotment is cut to the new
     /// quantum if it is larger and never raised: less holds at once, and more
     /// when the allotment is next renewed, after what the thread has left. Its
     /// lag is counted afresh from here; its share goes on. What it reserves now
-    /// stands in [`as_raw`](Scheduler::as_raw). Refused with [`NoThread`](Refusal::NoThread),
+    /// stands in [`as_raw`](Scheduler::as_raw). Refused with
+    /// [`NoThread`](Refusal::NoThread), also of a best-effort thread,
     /// [`ThreadRunning`](Refusal::ThreadRunning),
     /// [`Amount`](Refusal::Amount) or [`NoRoom`](Refusal::NoRoom); what the
     /// thread has already counts as free.
@@ -215,6 +255,7 @@ impl Scheduler {
                 thread,
                 reservation,
             } => self.change(thread, reservation)?,
+            Event::AdmitBestEffort { thread, weight } => self.admit_best_effort(thread, weight)?,
         }
         Ok(None)
     }
@@ -235,9 +276,9 @@ impl Scheduler {
     }
 
     /// A thread's lag: reservation × (meter since its anchor) − 1000 × (its
-    /// ticks since then), and 0 while it is blocked. The anchor is its
-    /// admission, wake, yield or change of reservation, whichever came last.
-    /// Refused with [`NoThread`](Refusal::NoThread).
+    /// ticks since then), and 0 while it is blocked; 0 of a best-effort thread.
+    /// The anchor is its admission, wake, yield or change of reservation,
+    /// whichever came last. Refused with [`NoThread`](Refusal::NoThread).
     pub fn lag(&self, thread: u8) -> Result<i64, Refusal> {
         let lag = numbers::lag(self.state, thread.into());
         lag.result().map_err(refused)
@@ -272,8 +313,9 @@ impl Scheduler {
         let mut rows = [raw::Entry::default(); raw::THREADS];
         let length = table.len().min(raw::THREADS);
         accepted(numbers::roster(self.state, &mut rows[..length]))?;
-        // Accepted, the list has as many threads as records are filled.
-        let filled = (self.state.count as usize).min(length);
+        // Accepted, as many records are filled as there are threads.
+        let admitted = self.state.threads.iter().filter(|t| t.status != 0);
+        let filled = admitted.count().min(length);
         for (to, from) in table.iter_mut().zip(&rows[..filled]) {
             *to = Entry::of(from);
         }
@@ -300,8 +342,8 @@ impl Scheduler {
         (self.state.running < raw::NO_THREAD).then_some(self.state.running as u8)
     }
 
-    /// The list of all admitted threads, front first; empty if its length makes
-    /// the state unsound.
+    /// The list of all reserved threads, front first; empty if its length makes
+    /// the state unsound. Best-effort threads stand outside it.
     pub fn list(&self) -> &[u8] {
         let count = self.state.count as usize;
         self.state.order.get(..count).unwrap_or_default()

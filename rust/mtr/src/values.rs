@@ -44,7 +44,8 @@ pub enum Reason {
     Tick,
     /// It blocks until it is woken.
     Block,
-    /// It moves to the rear with a full allotment, less its debt.
+    /// It moves to the rear with a full allotment, less its debt. A best-effort
+    /// thread stays runnable, as after a tick.
     Yield,
     /// It leaves the list and frees its number and reservation.
     Exit,
@@ -77,9 +78,11 @@ impl Reason {
 #[derive(Clone, Copy, Debug, PartialEq, Eq, Hash)]
 pub enum Dispatch {
     /// The thread is to run for at most `slice` ticks. `before` threads, all
-    /// blocked, stood before it in the list.
+    /// blocked, stood before it in the list; before a best-effort thread it is
+    /// the whole list, so that `before` is the number of reserved threads.
     Run { thread: u8, slice: u32, before: u32 },
-    /// No thread is runnable; the list has `before` threads.
+    /// No thread of either kind is runnable; there are `before` threads,
+    /// reserved and best-effort ones.
     Idle { before: u32 },
 }
 
@@ -98,10 +101,10 @@ pub struct Entry {
     pub thread: u8,
     pub state: ThreadState,
     /// Ticks left of its quantum, from which a debt is already taken: at least
-    /// 1 in a sound state.
+    /// 1 in a sound state. 0 of a best-effort thread.
     pub allotment: i32,
     /// Thousandths of ticks that it is behind its reservation; below 0 it is
-    /// ahead.
+    /// ahead. 0 of a best-effort thread.
     pub lag: i64,
     /// Thousandths of the meter since its admission, to the nearest, half to
     /// even.

@@ -1,6 +1,9 @@
 //! The typed interface: the listing of RULE 10, every refusal by name, event
 //! blocks and the roster.
 
+mod common;
+
+use common::{refused, run, with};
 use mtr::{
     blocks, numbers, raw, reservation_of, Dispatch, Entry, Event, Reason, Refusal, Scheduler,
     Settings, ThreadState,
@@ -11,14 +14,6 @@ const DEFAULT: Settings = Settings {
     interval: 20_000,
     overrun: 0,
 };
-
-fn run(thread: u8, slice: u32, before: u32) -> Dispatch {
-    Dispatch::Run {
-        thread,
-        slice,
-        before,
-    }
-}
 
 fn report(reason: Reason, used: u32) -> Event {
     Event::Report {
@@ -40,26 +35,6 @@ fn change(thread: u8, reservation: u16) -> Event {
         thread,
         reservation,
     }
-}
-
-/// A scheduler with threads of these numbers and reservations in group 0.
-fn with(threads: &[(u8, u16)]) -> Scheduler {
-    let mut s = Scheduler::default();
-    for &(thread, reservation) in threads {
-        s.admit(thread, 0, reservation).unwrap();
-    }
-    s
-}
-
-/// The call is refused and leaves the scheduler as it was.
-fn refused<T: std::fmt::Debug + PartialEq>(
-    s: &mut Scheduler,
-    refusal: Refusal,
-    call: impl FnOnce(&mut Scheduler) -> Result<T, Refusal>,
-) {
-    let before = s.clone();
-    assert_eq!(call(s), Err(refusal));
-    assert_eq!(*s, before);
 }
 
 /// The listing's 15 events.
@@ -604,6 +579,7 @@ fn unsound_states_are_refused() {
     refused(&mut s, Refusal::Unsound, |s| s.dispatch());
     refused(&mut s, Refusal::Unsound, |s| s.report(Reason::Tick, 0));
     refused(&mut s, Refusal::Unsound, |s| s.change(1, 1));
+    refused(&mut s, Refusal::Unsound, |s| s.admit_best_effort(2, 1));
     assert_eq!(s.subtree_total(0), Err(Refusal::Unsound));
     assert_eq!(s.lag(1), Err(Refusal::Unsound));
     assert_eq!(s.share(1), Err(Refusal::Unsound));
@@ -628,7 +604,7 @@ fn priorities() {
 }
 
 /// One event of each kind, with edge values.
-const KINDS: [Event; 9] = [
+const KINDS: [Event; 10] = [
     Event::Open {
         group: 255,
         parent: 254,
@@ -655,6 +631,10 @@ const KINDS: [Event; 9] = [
     Event::Change {
         thread: 247,
         reservation: 65_531,
+    },
+    Event::AdmitBestEffort {
+        thread: 246,
+        weight: 65_530,
     },
 ];
 
@@ -706,27 +686,35 @@ fn records() {
         assert_eq!(record.kind as usize, i + 1);
         assert_eq!(Event::try_from(record), Ok(event));
     }
-    let wanted = raw::Record {
-        kind: raw::KIND_CHANGE,
-        subject: 247,
-        amount: 65_531,
+    let record = |kind, subject, amount| raw::Record {
+        kind,
+        subject,
+        amount,
         ..raw::Record::default()
     };
-    assert_eq!((raw::Record::from(KINDS[8]), raw::KIND_CHANGE), (wanted, 9));
-    for record in [
-        raw::Record { group: 1, ..wanted },
-        raw::Record {
-            reason: 1,
-            ..wanted
-        },
-        raw::Record {
-            overrun: 1,
-            ..wanted
-        },
-        raw::Record { ticks: 1, ..wanted },
-        raw::Record { kind: 10, ..wanted },
-    ] {
-        assert_eq!(Event::try_from(record), Err(Refusal::Form), "{record:?}");
+    let change = record(raw::KIND_CHANGE, 247, 65_531);
+    let best_effort = record(raw::KIND_BEST_EFFORT, 246, 65_530);
+    assert_eq!((raw::Record::from(KINDS[8]), raw::KIND_CHANGE), (change, 9));
+    assert_eq!(
+        (raw::Record::from(KINDS[9]), raw::KIND_BEST_EFFORT),
+        (best_effort, 10)
+    );
+    for wanted in [change, best_effort] {
+        for record in [
+            raw::Record { group: 1, ..wanted },
+            raw::Record {
+                reason: 1,
+                ..wanted
+            },
+            raw::Record {
+                overrun: 1,
+                ..wanted
+            },
+            raw::Record { ticks: 1, ..wanted },
+            raw::Record { kind: 11, ..wanted },
+        ] {
+            assert_eq!(Event::try_from(record), Err(Refusal::Form), "{record:?}");
+        }
     }
     let mut counts = [0; 2];
     for kind in 0..=255 {
@@ -750,8 +738,8 @@ fn records() {
             counts[(answer == 0) as usize] += 1;
         }
     }
-    // Kinds use 3, 1, 3, 1, 1, 0, 2, 3 and 2 fields.
-    assert_eq!(counts[1], 8 + 2 + 8 + 2 + 2 + 1 + 4 + 8 + 4);
+    // Kinds use 3, 1, 3, 1, 1, 0, 2, 3, 2 and 2 fields.
+    assert_eq!(counts[1], 8 + 2 + 8 + 2 + 2 + 1 + 4 + 8 + 4 + 4);
     assert_eq!(counts[0] + counts[1], 256 * 64);
 }
 
@@ -793,6 +781,11 @@ fn journal_and_replay() {
         host.call(admit(thread, 0, 100 + 50 * u16::from(thread)))
             .unwrap();
     }
+    for thread in 40..42 {
+        let weight = u16::from(thread - 39);
+        host.call(Event::AdmitBestEffort { thread, weight })
+            .unwrap();
+    }
     let mut blocked = None;
     for round in 0..120 {
         let Ok(Some(Dispatch::Run { thread, slice, .. })) = host.call(Event::Dispatch) else {
@@ -813,6 +806,18 @@ fn journal_and_replay() {
         let reservation = 100 + 25 * (round % 3) as u16;
         assert_eq!(host.call(change(thread, reservation)), Ok(None));
     }
+    // The reserved threads block, and the best-effort ones share what is left.
+    for round in 0..60 {
+        let Ok(Some(Dispatch::Run { thread, slice, .. })) = host.call(Event::Dispatch) else {
+            panic!("a best-effort thread is runnable");
+        };
+        let reason = match thread {
+            40.. => Reason::Tick,
+            _ => Reason::Block,
+        };
+        host.call(report(reason, slice / (1 + round % 3))).unwrap();
+    }
+    assert!(host.scheduler.as_raw().time > 0);
     assert!(host.journal.len() > 10 && !host.rest.is_empty());
 
     let mut again = Scheduler::default();

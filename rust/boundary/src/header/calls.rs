@@ -9,8 +9,9 @@ use crate::ANSWER;
 pub const RUN: &str = "\
 /*
  * What a dispatch decides: the thread, the ticks that it may run, and how many
- * threads, all blocked, stood before it. Idle: MTR_NO_THREAD, no ticks, and the
- * length of the list.
+ * reserved threads, all blocked, stood before it; before a best-effort thread
+ * that is all of them. Idle: MTR_NO_THREAD, no ticks, and the number of all
+ * threads, of either kind.
  */
 typedef struct mtr_run {
     uint32_t thread;
@@ -35,6 +36,14 @@ const LEAVES: [(&str, &str); 2] = [
         "*state is then unchanged. Accepted, the fresh scheduler is stored to it.",
     ),
     ("read_block", "The area is unchanged."),
+];
+
+/// Stores the number of admitted threads. The list has the reserved ones alone.
+const ADMITTED: [&str; 4] = [
+    "*filled = 0;",
+    "for (size_t i = 0; i < MTR_THREADS; i++)",
+    "    if (state->threads[i].status != MTR_STATUS_FREE)",
+    "        ++*filled;",
 ];
 
 /// A place that an accepted call stores to beside the state.
@@ -121,11 +130,11 @@ fn outs(interface: &Interface, name: &str, reply: Option<&Struct>, stores: bool)
         s.fields.iter().filter(own).cloned().collect()
     };
     match reply {
-        // How many records a roster has stands in the state.
+        // A roster has a record for each thread that is admitted.
         None if name == "roster" => vec![Out {
             declared: "size_t *filled".to_string(),
             name: "filled".to_string(),
-            stores: vec!["*filled = state->count;".to_string()],
+            stores: ADMITTED.map(str::to_string).to_vec(),
         }],
         None => Vec::new(),
         Some(s) if stores && name == RUNS => vec![Out {

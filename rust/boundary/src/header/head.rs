@@ -11,7 +11,7 @@ pub fn print(interface: &Interface, costs: &[Cost]) -> String {
     for cost in costs {
         let name = format!("mtr_{}", cost.name);
         let line = format!(
-            " *     {name:<18}{:>8}{:>16}\n",
+            " *     {name:<22}{:>8}{:>16}\n",
             cost.stack, cost.instructions
         );
         table += &line;
@@ -74,6 +74,20 @@ const HEAD: &str = r#"/*
  * while the reservation stays the same. A change to another amount begins it
  * anew, and a thread that is changed again and again may get next to nothing.
  *
+ * Best-effort threads. Work that needs no reservation, such as the printing of
+ * reports, takes the time that reserved threads leave. mtr_admit_best_effort
+ * admits a thread with a weight of 1 to 16, in no group and outside the list, so
+ * that it takes nothing from what can be reserved. It is dispatched only if no
+ * reserved thread is runnable, for a slice of P, and gets nothing while reserved
+ * threads keep the core busy; their share guarantee holds beside it. A reserved
+ * thread that is woken while it runs waits at most for the run in hand: the next
+ * dispatch takes a reserved thread. Best-effort threads share by weight, and one
+ * saves nothing up while it is blocked. While two of them, of weights v and w,
+ * stay runnable, what each has run divided by its weight differs by at most
+ * (P + O) / v + (P + O) / w: one longest run of each. The host reports, wakes and
+ * removes them as it does the others. mtr_change refuses them with
+ * MTR_REFUSED_NO_THREAD; in the roster their lag and their allotment are 0.
+ *
  * Customers' priorities. A program that comes with a priority of 1 to 10 has the
  * reservation that mtr_priority answers, or that of the customer's own table: 1
  * to 10 rows, and every priority in exactly one. mtr_priority_under checks the
@@ -101,11 +115,12 @@ const HEAD: &str = r#"/*
  * reply, and the library's frames; a handler needs it on top of its own, and the
  * functions below add less than 160 bytes with gcc and clang. Instructions are
  * those within the library, in the dearest accepted case that was measured: 64
- * threads in 16 groups, a full block, a table of ten rows. The copies that the
- * functions below make come on top. Both are measured on this version's code;
- * counts of instructions differ by up to 24 from one run to another.
+ * threads in 16 groups, with best-effort threads among them and without, a full
+ * block, a table of ten rows. The copies that the functions below make come on
+ * top. Both are measured on this version's code; counts of instructions differ
+ * by up to 24 from one run to another.
  *
- *     call                 stack    instructions
+ *     call                     stack    instructions
  *     @TABLE@
  */
 #ifndef MTR_H

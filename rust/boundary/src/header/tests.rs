@@ -96,6 +96,55 @@ MTR_MUST_USE static inline mtr_answer mtr_seek(const mtr_table *table,
     assert_eq!(seek(&["answer", "placed"]), format!("{DESCRIBED}{wanted}"));
 }
 
+/// The roster's records are those of all admitted threads: the list has the reserved ones alone.
+#[test]
+fn a_roster_counts_the_admitted() {
+    let state = Pass::Value(Form::Struct("Scheduler".to_string()));
+    let table = Pass::Slice {
+        mutable: true,
+        element: Form::Struct("Entry".to_string()),
+    };
+    let refusal = Refusal {
+        number: 17,
+        name: "REFUSED_LENGTH".to_string(),
+        reason: "the table is short".to_string(),
+    };
+    let f = Function {
+        comment: Comment {
+            does: "Fills.".to_string(),
+            refuses: vec![refusal],
+            leaves: "The state is unchanged.".to_string(),
+        },
+        name: "mtr_by_value_roster".to_string(),
+        parameters: vec![("state".to_string(), state), ("table".to_string(), table)],
+        result: Some(Form::Number(NUMBERS[2])),
+    };
+    let wanted = "\
+/*
+ * Fills.
+ *
+ * Refuses, the first that applies:
+ *   17 MTR_REFUSED_LENGTH: the table is short
+ * The state is unchanged. *filled is how many records are filled; refused, it
+ * is unchanged.
+ */
+MTR_MUST_USE static inline mtr_answer mtr_roster(const mtr_scheduler *state,
+    mtr_entry *table, size_t table_len, size_t *filled)
+{
+    const uint32_t answer = mtr_by_value_roster(*state, table, table_len);
+    if (answer == MTR_ACCEPTED) {
+        *filled = 0;
+        for (size_t i = 0; i < MTR_THREADS; i++)
+            if (state->threads[i].status != MTR_STATUS_FREE)
+                ++*filled;
+    }
+    return MTR_CAST(mtr_answer, answer);
+}
+
+";
+    assert_eq!(calls::print(&Interface::default(), &f, "roster"), wanted);
+}
+
 /// A head whose name fits behind its result, to the first comma, has it there, and else on the next line.
 #[test]
 fn a_long_head_is_parted_before_its_name() {

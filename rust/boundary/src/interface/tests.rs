@@ -110,6 +110,9 @@ fn with(calls: &str) -> Result<Interface, Error> {
             "crates/priority/src/table.rt" => {
                 "pub const ROWS: u64 = 9; pub const ROW: u32 = 32; pub const COVER: u32 = 33;"
             }
+            "crates/fair/src/lib.rt" => {
+                "pub const TAG_UNIT: u64 = 7; pub const WEIGHT_LEAST: u8 = 2; pub const WEIGHT_MOST: u8 = 5;"
+            }
             "crates/scheduler/src/refusal.rt" => REFUSAL,
             "crates/scheduler/src/batch.rt" => "pub const HALTED: u32 = 20;",
             "crates/accounts/src/roster.rt" => "pub const LENGTH: u32 = 17;",
@@ -148,7 +151,14 @@ fn offsets() {
         ("Records", 248, 4, vec![0], true),
     ];
     assert_eq!(layout, wanted);
-    for (name, value) in [("RECORDS", 31), ("PRIORITY_ROWS", 9), ("VERSION", 20304)] {
+    for (name, value) in [
+        ("RECORDS", 31),
+        ("PRIORITY_ROWS", 9),
+        ("VERSION", 20304),
+        ("LEAST_WEIGHT", 2),
+        ("MOST_WEIGHT", 5),
+        ("TAG_UNIT", 7),
+    ] {
         let mut names = found.families.iter().flat_map(|f| &f.names);
         let constant = names.find(|n| n.name == name);
         assert_eq!(constant.map(|n| n.value), Some(value), "{name}");

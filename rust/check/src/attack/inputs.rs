@@ -1,15 +1,13 @@
-//! What is passed: states, arguments, records and blocks, arbitrary or nearly right.
+//! What is passed beside a state: arguments, records and blocks, arbitrary or nearly right.
 
-use crate::bytes::{self, STATE, TABLE};
-use crate::compare::{to_library, to_library_record, to_model};
+use crate::bytes::{self, TABLE};
+use crate::compare::{to_library_record, to_model};
 use crate::guard::Side;
 use model::blocks::{check, write_block, BLOCK, RECORD};
 use model::calls::Call;
 use model::random::{
-    any_record, any_table, asked_priority, damaged_tables, edge_value, hostile_state, sound_state,
-    usable_table, Rng,
+    any_record, any_table, asked_priority, damaged_tables, edge_value, usable_table, Rng,
 };
-use model::rule::Scheduler;
 use mtr::raw::{self, Record, Records};
 use std::mem::size_of;
 
@@ -20,97 +18,6 @@ pub(super) fn any_bytes(r: &mut Rng, to: &mut [u8]) {
         let bytes = r.bits().to_le_bytes();
         part.copy_from_slice(&bytes[..part.len()]);
     }
-}
-
-/// A state, and of which origin it is.
-pub(super) fn any_state(r: &mut Rng) -> (usize, raw::Scheduler) {
-    match r.below(10) {
-        0 => {
-            let mut any = [0; STATE];
-            any_bytes(r, &mut any);
-            (0, bytes::to(&any))
-        }
-        1 | 2 => (1, changed(r)),
-        3 => (2, to_library(&hostile_state(r))),
-        4 => (3, owing(r)),
-        _ => (4, to_library(&sound(r))),
-    }
-}
-
-/// A sound state, in which a report of the running thread may end its allotment beyond its slice.
-fn sound(r: &mut Rng) -> Scheduler {
-    let mut s = sound_state(r);
-    if let (Some(t), true) = (s.threads.get(s.running as usize), r.chance(1, 4)) {
-        let beyond = r.edgy(0, s.settings.overrun as u64) as u32;
-        s.settings.interval = (t.allotment as u32).saturating_sub(beyond).max(1);
-    }
-    s
-}
-
-/// Sets a thread's ticks, and the meter at its admission, so that its share is a number and a half, or a tick beside
-/// that. The lag begins anew.
-pub(super) fn near_half(r: &mut Rng, state: &mut raw::Scheduler, number: u64) {
-    let most = state.meter / 2000;
-    let Some(t) = state.threads.get_mut(number as usize) else {
-        return;
-    };
-    if most > 0 {
-        let unit = r.edgy(1, most);
-        t.admission = state.meter - 2000 * unit;
-        t.ticks = (2 * r.below(1000) + 1) * unit + r.below(3) - 1;
-        (t.anchor, t.since) = (state.meter, 0);
-    }
-}
-
-/// A sound state with some bytes changed.
-fn changed(r: &mut Rng) -> raw::Scheduler {
-    let mut whole = bytes::state(&sound_state(r));
-    for _ in 0..r.edgy(1, 6) {
-        // Half of them past the threads, in the smaller part.
-        let at = if r.chance(1, 2) {
-            r.range(2560, STATE as u64 - 1)
-        } else {
-            r.below(STATE as u64)
-        };
-        let byte = &mut whole[at as usize];
-        *byte = match r.below(3) {
-            0 => r.bits() as u8,
-            1 => *byte ^ 1 << r.below(8),
-            _ => r.edgy(0, 64) as u8,
-        };
-    }
-    bytes::to(&whole)
-}
-
-/// A sound state with another overrun limit or other allotments, of any value.
-fn owing(r: &mut Rng) -> raw::Scheduler {
-    let mut s = sound_state(r);
-    let m = s.settings.thousandth;
-    if s.count == 0 || r.chance(1, 2) {
-        s.settings.overrun = match r.below(4) {
-            0 => r.bits() as u16,
-            1 => r.edgy(0, u16::MAX as u64) as u16,
-            2 => m - r.below(2) as u16,
-            _ => m + r.below(2) as u16,
-        };
-        return to_library(&s);
-    }
-    for _ in 0..r.range(1, 3) {
-        let n = r.pick(s.list()) as usize;
-        let t = &mut s.threads[n];
-        let quantum = t.reservation as i32 * m as i32;
-        let overrun = s.settings.overrun as u64;
-        t.allotment = match r.below(8) {
-            0 => r.bits() as i32,
-            1 => r.edgy(0, u32::MAX as u64) as u32 as i32,
-            2 => r.pick(&[i32::MIN, i32::MAX]),
-            3 => quantum + r.below(2) as i32,
-            4 => r.below(2) as i32,
-            5 | 6 => -(r.edgy(0, overrun) as i32),
-            _ => -(overrun as i32) - r.below(2) as i32,
-        };
-    }
-    to_library(&s)
 }
 
 /// 0, next to a power of two, any, an edge of some rule, about `top`, or up to `top`.
@@ -175,12 +82,25 @@ pub(super) fn any_call(r: &mut Rng, function: usize, state: &raw::Scheduler) -> 
         },
         6 => Call::Dispatch,
         7 => report(r, state),
-        _ => change(r, state),
+        8 => change(r, state),
+        _ => Call::AdmitBestEffort {
+            number: match (0..64).find(|&n| state.threads[n].status == 0) {
+                Some(free) if r.chance(1, 3) => free as u64,
+                _ => argument(r, 63),
+            },
+            weight: match r.below(6) {
+                0 => argument(r, 16),
+                1 => r.pick(&[0, 1, 16, 17, 255, 256 + 1]),
+                _ => r.range(1, 16),
+            },
+        },
     }
 }
 
 fn report(r: &mut Rng, state: &raw::Scheduler) -> Call {
     let allotment = match state.threads.get(state.running as usize) {
+        // A best-effort thread may always run for P.
+        Some(t) if t.reservation == 0 => state.settings.interval as u64,
         Some(t) => t.allotment.max(0) as u64,
         None => 1_000,
     };
@@ -203,7 +123,7 @@ fn report(r: &mut Rng, state: &raw::Scheduler) -> Call {
     }
 }
 
-/// A change of any thread or of the running one. The amount is any, next to the old one, to all that the group has
+/// A change of any thread, mostly of a listed one, or of the running one. The amount is any, next to the old one, to all that the group has
 /// free, or to what the allotment fills.
 fn change(r: &mut Rng, state: &raw::Scheduler) -> Call {
     let listed = state.order.get(..state.count as usize);
@@ -215,7 +135,7 @@ fn change(r: &mut Rng, state: &raw::Scheduler) -> Call {
     // Of a number that is no thread's some thread's numbers.
     let t = &state.threads[number as usize % 64];
     let s = to_model(state);
-    let group = t.group as usize % 16;
+    let group = t.group_or_weight as usize % 16;
     let free = (s.groups[group].ceiling as u64).saturating_sub(s.taken(group) as u64);
     let old = t.reservation as u64;
     let filled = (t.allotment.max(0) as u64).div_ceil(state.settings.thousandth.max(1) as u64);

@@ -22,7 +22,7 @@ impl Attack {
 
     pub(super) fn roster(&mut self, r: &mut Rng, state: &raw::Scheduler) -> u32 {
         let s = to_model(state);
-        let threads = s.list().len() as u64;
+        let threads = s.threads.iter().filter(|t| t.status != 0).count() as u64;
         let length = match r.below(4) {
             0 => r.edgy(0, 80),
             1 => threads,
@@ -41,19 +41,19 @@ impl Attack {
         let mut wanted: Vec<_> = contents.chunks_exact(ENTRY).map(entry).collect();
         let answer = s.roster(&mut wanted);
         let of = format_args!("of {length} {side:?}");
-        self.same(14, of, found, answer);
+        self.same(15, of, found, answer);
         let after = self.page.contents(side, contents.len());
         self.same(
-            14,
+            15,
             of,
             after.chunks_exact(ENTRY).map(entry).collect(),
             wanted,
         );
         if answer != 0 {
-            self.same(14, of, after, contents);
+            self.same(15, of, after, contents);
         }
         self.same(
-            14,
+            15,
             "memory around the table",
             self.page.intact(side, contents.len()),
             true,
@@ -84,13 +84,13 @@ impl Attack {
         let mut wanted = contents.to_vec();
         let answer = write_block(&mut wanted, number, &records);
         let of = format_args!("of {length} {side:?}, block {number}, {count} of {list:?}");
-        self.same(15, of, found, answer);
-        self.same(15, of, self.page.contents(side, length), &wanted);
+        self.same(16, of, found, answer);
+        self.same(16, of, self.page.contents(side, length), &wanted);
         if answer != 0 {
-            self.same(15, of, self.page.contents(side, length), contents);
+            self.same(16, of, self.page.contents(side, length), contents);
         }
         self.same(
-            15,
+            16,
             "memory around the area",
             self.page.intact(side, length),
             true,
@@ -118,11 +118,11 @@ impl Attack {
         };
         let wanted = bytes::found(answer, &records);
         let of = format_args!("of {length} {side:?}, block {number}, {contents:?}");
-        self.same(16, of, found, bytes::to(&wanted));
-        self.same(16, "bytes", bytes::of(&found) == wanted, true);
-        self.same(16, of, self.page.contents(side, length), contents);
+        self.same(17, of, found, bytes::to(&wanted));
+        self.same(17, "bytes", bytes::of(&found) == wanted, true);
+        self.same(17, of, self.page.contents(side, length), contents);
         self.same(
-            16,
+            17,
             "memory around the area",
             self.page.intact(side, length),
             true,
@@ -144,12 +144,12 @@ impl Attack {
         let table = to_model_table(&bytes::to(&contents));
         let wanted = asked(&table, priority);
         let of = format_args!("{priority} {table:?}");
-        self.same(17, of, found, to_library_line(wanted));
-        self.same(17, "bytes", bytes::of(&found) == bytes::line(&wanted), true);
+        self.same(18, of, found, to_library_line(wanted));
+        self.same(18, "bytes", bytes::of(&found) == bytes::line(&wanted), true);
         let after = self.page.contents(side, contents.len());
-        self.same(17, "the table afterwards", after, &contents);
+        self.same(18, "the table afterwards", after, &contents);
         let intact = self.page.intact(side, contents.len());
-        self.same(17, "memory around the table", intact, true);
+        self.same(18, "memory around the table", intact, true);
         self.tables.line(&table, priority, wanted);
         self.standard += (table == standard()) as u64;
         wanted.answer

@@ -6,9 +6,11 @@
 mod classes;
 mod inputs;
 mod lent;
+mod states;
 
-pub use classes::{ALLOTMENTS, LIMITS, ORIGINS};
+pub use classes::{ALLOTMENTS, LIMITS, ORIGINS, PROPERTIES};
 
+use crate::best_effort::BestEffort;
 use crate::bytes;
 use crate::changes::Changes;
 use crate::compare::{made, to_library, to_model, ZEROS};
@@ -17,12 +19,14 @@ use crate::guard::Guarded;
 use crate::late::Late;
 use crate::share::Shares;
 use crate::tables::Tables;
-use classes::{allotment, limit};
-use inputs::{any_call, any_state, argument, near_half, settings};
+use classes::{allotment, limit, View, BROKEN, BROKEN_EACH};
+use inputs::{any_call, argument, settings};
 use model::calls::apply;
 use model::random::Rng;
 use model::rule::{priority, Scheduler};
 use mtr::raw::{self, LagLine, Mapped, Reply, ShareLine, Total};
+use states::{any_state, near_half, Broken};
+use std::collections::BTreeMap;
 use std::fmt::{Debug, Display};
 
 /// Calls of a round.
@@ -33,7 +37,7 @@ pub const SEED: u64 = 2026;
 pub const ROUNDS: u64 = 1_000_000 / CALLS;
 
 /// The exported functions that take something, and the answers that each one can give.
-pub const FUNCTIONS: [(&str, &[u32]); 18] = [
+pub const FUNCTIONS: [(&str, &[u32]); 19] = [
     ("mtr_by_value_start", &[0, 1]),
     ("mtr_by_value_open", &[0, 2, 3, 4, 5, 16]),
     ("mtr_by_value_close", &[0, 2, 6, 16]),
@@ -43,6 +47,7 @@ pub const FUNCTIONS: [(&str, &[u32]); 18] = [
     ("mtr_by_value_dispatch", &[0, 12, 15, 16]),
     ("mtr_by_value_report", &[0, 11, 13, 14, 16]),
     ("mtr_by_value_change", &[0, 4, 5, 7, 9, 16]),
+    ("mtr_by_value_admit_best_effort", &[0, 4, 7, 8, 16]),
     ("mtr_by_value_sound", &[0, 1]),
     ("mtr_by_value_priority", &[0, 4]),
     ("mtr_by_value_subtree", &[0, 2, 16]),
@@ -60,13 +65,18 @@ pub const ANSWERS: usize = 24;
 /// What was called and answered.
 pub struct Attack {
     page: Guarded,
+    conditions: Broken,
     seed: u64,
     round: u64,
     call: u64,
     /// By function and answer.
     pub answers: [[u64; ANSWERS]; FUNCTIONS.len()],
     /// By origin of the first state: not sound, sound.
-    pub states: [[u64; 2]; 5],
+    pub states: [[u64; 2]; ORIGINS.len()],
+    /// Answers 16 by the one condition that does not hold.
+    pub broken: BTreeMap<&'static str, u64>,
+    /// By what the first state has: not sound, sound.
+    pub properties: [[u64; 2]; PROPERTIES.len()],
     /// By the first state's overrun limit and by the allotments of its listed threads.
     pub limits: [[u64; 2]; 6],
     pub allotments: [[u64; 2]; 9],
@@ -74,6 +84,8 @@ pub struct Attack {
     pub late: Late,
     /// What occurred of changes.
     pub changes: Changes,
+    /// What occurred of best-effort threads.
+    pub best_effort: BestEffort,
     /// Shares that were asked for one by one.
     pub shares: Shares,
     /// Accepted dispatches that were idle.
@@ -90,17 +102,22 @@ pub struct Attack {
 
 impl Attack {
     pub fn new(seed: u64) -> Attack {
+        let conditions = Broken::new(seed);
         Attack {
             page: Guarded::mapped(),
+            broken: conditions.names().map(|name| (name, 0)).collect(),
+            conditions,
             seed,
             round: 0,
             call: 0,
             answers: [[0; ANSWERS]; FUNCTIONS.len()],
-            states: [[0; 2]; 5],
+            states: [[0; 2]; ORIGINS.len()],
+            properties: [[0; 2]; PROPERTIES.len()],
             limits: [[0; 2]; 6],
             allotments: [[0; 2]; 9],
             late: Late::default(),
             changes: Changes::default(),
+            best_effort: BestEffort::default(),
             shares: Shares::default(),
             idle: 0,
             priorities: [0; 12],
@@ -118,7 +135,12 @@ impl Attack {
     pub fn round(&mut self, round: u64) {
         let mut r = Rng::new(Rng::new(self.seed.rotate_left(32) ^ round).bits());
         self.round = round;
-        let (origin, mut state) = any_state(&mut r);
+        let (mut origin, mut state) = any_state(&mut r);
+        let mut broken = None;
+        if round.is_multiple_of(BROKEN_EACH) {
+            let (name, changed) = self.conditions.state(round / BROKEN_EACH);
+            (origin, state, broken) = (BROKEN, changed, Some(name));
+        }
         self.note(origin, &state);
         for call in 0..CALLS {
             self.call = call;
@@ -129,6 +151,9 @@ impl Attack {
             match count {
                 Some(count) => *count += 1,
                 None => panic!("{} answers {answer}", self.place(function)),
+            }
+            if let (16, Some(name)) = (answer, broken) {
+                *self.broken.entry(name).or_default() += 1;
             }
         }
     }
@@ -142,6 +167,10 @@ impl Attack {
             if let Some(t) = state.threads.get(n as usize) {
                 self.allotments[allotment(t, &state.settings)][sound] += 1;
             }
+        }
+        let view = View::new(&s);
+        for (count, (_, _, is)) in self.properties.iter_mut().zip(PROPERTIES) {
+            count[sound] += is(&view) as u64;
         }
     }
 
@@ -163,13 +192,13 @@ impl Attack {
     fn make(&mut self, r: &mut Rng, function: usize, state: &mut raw::Scheduler) -> u32 {
         match function {
             0 => self.start(r, state),
-            1..=8 => self.step(r, function, state),
-            9 => {
+            1..=9 => self.step(r, function, state),
+            10 => {
                 let found = raw::mtr_by_value_sound(*state);
                 self.same(function, "", found, to_model(state).sound() as u32);
                 found
             }
-            10 => {
+            11 => {
                 let number = argument(r, 10);
                 let found = raw::mtr_by_value_priority(number);
                 let (answer, reservation) = split(priority(number));
@@ -183,7 +212,7 @@ impl Attack {
                 }
                 answer
             }
-            11 => {
+            12 => {
                 let group = argument(r, 15);
                 let found = raw::mtr_by_value_subtree(*state, group);
                 let (answer, thousandths) = split(subtree(&to_model(state), group));
@@ -194,7 +223,7 @@ impl Attack {
                 self.same(function, format_args!("{group} {state:?}"), found, wanted);
                 answer
             }
-            12 => {
+            13 => {
                 let number = argument(r, 63);
                 let found = raw::mtr_by_value_lag(*state, number);
                 let (answer, lag) = split(to_model(state).lag(number));
@@ -205,7 +234,7 @@ impl Attack {
                 self.same(function, format_args!("{number} {state:?}"), found, wanted);
                 answer
             }
-            13 => {
+            14 => {
                 let number = argument(r, 63);
                 if r.chance(1, 4) {
                     near_half(r, state, number);
@@ -223,9 +252,9 @@ impl Attack {
                 }
                 answer
             }
-            14 => self.roster(r, state),
-            15 => self.write(r),
-            16 => self.read(r),
+            15 => self.roster(r, state),
+            16 => self.write(r),
+            17 => self.read(r),
             _ => self.under(r),
         }
     }
@@ -275,6 +304,7 @@ impl Attack {
         if numbers.answer != 16 {
             self.late.call(&before, call, numbers.answer);
             self.changes.call(&before, call, numbers.answer);
+            self.best_effort.call(&before, call, numbers, &after);
         }
         self.idle += (numbers.answer == 0 && numbers.thread == 64) as u64;
         *state = found.state;
@@ -309,8 +339,8 @@ fn subtree(s: &Scheduler, group: u64) -> Result<u32, u32> {
         return Err(2);
     }
     let mut sum = 0;
-    for t in s.threads.iter().filter(|t| t.status != 0) {
-        let mut g = t.group as u64;
+    for t in s.threads.iter().filter(|t| t.is_reserved()) {
+        let mut g = t.group() as u64;
         while g != group && g != 0 {
             g = s.groups[g as usize].parent as u64;
         }

@@ -6,7 +6,7 @@
 //! made full.
 
 use journal::codec::{answer, kind, Record};
-use journal::engine::{Engine, Reply, Settings};
+use journal::engine::{Class, Engine, Reply, Settings};
 use model::rule::{self, Scheduler};
 use model::{blocks, calls};
 
@@ -53,10 +53,16 @@ impl Engine for RefillOnWake {
         self.state.share(thread.into()).ok()
     }
 
-    fn place(&self, thread: u8) -> Option<(u64, u8)> {
-        let admitted = self.state.admitted(thread.into());
+    fn class(&self, thread: u8) -> Option<Class> {
         let entry = self.state.threads.get(thread as usize)?;
-        admitted.then_some((entry.reservation.into(), entry.group))
+        if entry.is_best_effort() {
+            let weight = entry.weight();
+            return Some(Class::BestEffort { weight });
+        }
+        entry.is_reserved().then(|| Class::Reserved {
+            reservation: entry.reservation.into(),
+            group: entry.group() as u8,
+        })
     }
 
     fn settings(&self) -> Settings {

@@ -1,8 +1,8 @@
 //! A virtual controller that makes the calls of a case.
 //!
-//! Its clock is the meter: readout wants the core at all times, so there is no
-//! idle time. It interrupts the running thread at every wake, and by its timer at
-//! the end of the slice or some ticks later.
+//! Its clock goes on with the meter, and where nothing is runnable to the next
+//! wake. It interrupts the running thread at every wake, and by its timer at the
+//! end of the slice or some ticks later.
 
 use journal::codec::{self, answer, kind, reason, Record, NONE, RECORDS};
 use journal::engine::{Engine, Settings};
@@ -31,10 +31,12 @@ pub enum Server {
     Jittery,
 }
 
-/// The settings and what the threads, numbered from 0, reserve and do.
+/// The settings and what the threads, numbered from 0, have and do: those with
+/// reservations first, then the best-effort ones.
 pub struct Load<'a> {
     pub settings: Settings,
     pub reservations: &'a [u64],
+    pub weights: &'a [u64],
     /// Ticks of work between two waits.
     pub bursts: &'a [u64],
     /// From when on, in order, which thread reserves how much.
@@ -68,7 +70,7 @@ impl Outcome {
 
 struct Controller<E> {
     engine: E,
-    meter: u64,
+    clock: u64,
     outcome: Outcome,
 }
 
@@ -76,7 +78,7 @@ impl<E: Engine> Controller<E> {
     fn new(threads: usize) -> Controller<E> {
         Controller {
             engine: E::default(),
-            meter: 0,
+            clock: 0,
             outcome: Outcome {
                 records: Vec::new(),
                 shares: vec![0; threads],
@@ -109,7 +111,7 @@ impl<E: Engine> Controller<E> {
             ticks: used as u32,
             ..Record::default()
         });
-        self.meter += used;
+        self.clock += used;
         for (n, largest) in (0u8..).zip(&mut self.outcome.largest) {
             *largest = (*largest).max(self.engine.lag(n));
         }
@@ -133,11 +135,13 @@ impl<E: Engine> Controller<E> {
             overrun: load.settings.overrun,
             ..Record::default()
         });
-        for (n, &f) in (0u8..).zip(load.reservations) {
+        let reserved = load.reservations.iter().map(|&f| (kind::ADMIT, f));
+        let efforts = load.weights.iter().map(|&w| (kind::BEST_EFFORT, w));
+        for (n, (kind, amount)) in (0u8..).zip(reserved.chain(efforts)) {
             self.call(Record {
-                kind: kind::ADMIT,
+                kind,
                 subject: n,
-                amount: f as u16,
+                amount: amount as u16,
                 ..Record::default()
             });
         }
@@ -150,6 +154,7 @@ pub fn play<E: Engine>(server: Server, length: u64) -> Outcome {
     let load = Load {
         settings: Settings::default(),
         reservations: &RESERVATIONS,
+        weights: &[],
         bursts: &BURSTS,
         changes: &[],
     };
@@ -161,7 +166,7 @@ pub fn play<E: Engine>(server: Server, length: u64) -> Outcome {
     control::<E>(&load, length, pause, || 0)
 }
 
-/// Runs a load until the meter reaches a length. After its burst a thread waits
+/// Runs a load until the clock reaches a length. After its burst a thread waits
 /// for the ticks told; the timer is late by the ticks told.
 pub fn control<E: Engine>(
     load: &Load,
@@ -175,35 +180,36 @@ pub fn control<E: Engine>(
     // When a blocked thread is to be woken.
     let mut due: Vec<Option<u64>> = vec![None; left.len()];
     let mut changes = load.changes.iter().peekable();
-    while c.meter < length {
-        while let Some(&(_, n, f)) = changes.next_if(|(at, ..)| *at <= c.meter) {
+    while c.clock < length {
+        while let Some(&(_, n, f)) = changes.next_if(|(at, ..)| *at <= c.clock) {
             c.change(n, f);
         }
         let (thread, slice) = c.plain(kind::DISPATCH, 0);
-        assert!(thread != NONE);
-        let n = thread as usize;
-        let until = due
-            .iter()
-            .flatten()
-            .min()
-            .map_or(u64::MAX, |at| at - c.meter);
-        let used = left[n].min(slice + late()).min(until);
-        if left[n] != u64::MAX {
-            left[n] -= used;
-        }
-        let mut waits = 0;
-        if left[n] == 0 {
-            left[n] = load.bursts[n];
-            waits = pause(n);
-        }
-        if waits > 0 {
-            c.report(reason::BLOCK, used);
-            due[n] = Some(c.meter + waits);
+        let next = due.iter().flatten().min().copied();
+        if thread == NONE {
+            // All threads are blocked, each for a time.
+            c.clock = next.unwrap_or(length);
         } else {
-            c.report(reason::TICK, used);
+            let n = thread as usize;
+            let until = next.map_or(u64::MAX, |at| at - c.clock);
+            let used = left[n].min(slice + late()).min(until);
+            if left[n] != u64::MAX {
+                left[n] -= used;
+            }
+            let mut waits = 0;
+            if left[n] == 0 {
+                left[n] = load.bursts[n];
+                waits = pause(n);
+            }
+            if waits > 0 {
+                c.report(reason::BLOCK, used);
+                due[n] = Some(c.clock + waits);
+            } else {
+                c.report(reason::TICK, used);
+            }
         }
         for (n, at) in due.iter_mut().enumerate() {
-            if at.is_some_and(|at| at <= c.meter) {
+            if at.is_some_and(|at| at <= c.clock) {
                 *at = None;
                 c.plain(kind::WAKE, n as u8);
                 c.outcome.wakes[n] += 1;

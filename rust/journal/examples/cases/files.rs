@@ -13,8 +13,8 @@ use journal::text;
 use journal::track::{Mark, View};
 
 use crate::broken::RefillOnWake;
-use crate::controller::{play, Server, EXPORTER, LENGTH, NAMES, RESERVATIONS};
-use crate::{late, raised};
+use crate::controller::{self, play, Server, EXPORTER, LENGTH, RESERVATIONS};
+use crate::{late, raised, spare};
 
 /// A shipped journal.
 #[derive(Clone, Copy, Debug)]
@@ -44,6 +44,9 @@ pub const LATE: (&str, &str) = ("late", "A timer that fires up to 90 \u{b5}s lat
 /// Name and title of the journal with a method change.
 pub const RAISED: (&str, &str) = ("raised", "Readout raised from 500 to 700 for a method");
 
+/// Name and title of the journal with best-effort threads.
+pub const SPARE: (&str, &str) = ("spare", "A report printer and a log packer in spare time");
+
 /// Title of the picture of the broken rule.
 pub const BROKEN: &str = "The same exporter by a broken rule: every wake fills the allotment";
 
@@ -64,9 +67,14 @@ fn zoom() -> View {
 /// Width of the three pictures that stand side by side.
 pub const NARROW: u32 = 460;
 
+/// Names of the threads, from 0.
+fn called() -> impl Iterator<Item = &'static str> {
+    controller::NAMES.into_iter().chain(spare::NAMES)
+}
+
 fn picture<E: Engine>(journal: &[u8], title: &str, view: View, width: u32) -> String {
     let mut names = Names::default();
-    for (n, name) in (0u8..).zip(NAMES) {
+    for (n, name) in (0u8..).zip(called()) {
         names.give(n, name);
     }
     let options = Options {
@@ -90,9 +98,10 @@ pub fn broken_picture() -> String {
 }
 
 fn names() -> String {
-    let mut out =
-        String::from("# Threads of the shipped journals steady, exporter, late and raised.\n");
-    for (n, name) in NAMES.iter().enumerate() {
+    let mut out = String::from(
+        "# Threads of the shipped journals steady, exporter, late, raised and spare.\n",
+    );
+    for (n, name) in called().enumerate() {
         let _ = writeln!(out, "{n} {name}");
     }
     out
@@ -106,7 +115,7 @@ fn here() -> &'static Path {
 /// picture of a width.
 fn shipped(
     (name, title): (&str, &str),
-    reservations: &[u64],
+    (reservations, weights): (&[u64], &[u64]),
     journal: &[u8],
     width: u32,
 ) -> [(PathBuf, Vec<u8>); 3] {
@@ -114,8 +123,10 @@ fn shipped(
     let mut lines = Vec::new();
     // Writing to a vector does not fail.
     let _ = writeln!(&mut lines, "# {title}.");
-    for (n, (name, f)) in NAMES.iter().zip(reservations).enumerate() {
-        let _ = writeln!(&mut lines, "# thread {n}: {name}, reservation {f}");
+    let reserved = reservations.iter().map(|f| format!("reservation {f}"));
+    let efforts = weights.iter().map(|w| format!("best effort, weight {w}"));
+    for (n, (name, has)) in called().zip(reserved.chain(efforts)).enumerate() {
+        let _ = writeln!(&mut lines, "# thread {n}: {name}, {has}");
     }
     let whole = Journal::whole(journal);
     let _ = text::decode(whole, &mut lines, &mut Progress::silent());
@@ -144,7 +155,7 @@ pub fn files() -> Vec<(PathBuf, Vec<u8>)> {
     for case in CASES {
         let journal = play::<Proved>(case.server, LENGTH).journal();
         let called = (case.name, case.title);
-        files.extend(shipped(called, &RESERVATIONS, &journal, NARROW));
+        files.extend(shipped(called, (&RESERVATIONS, &[]), &journal, NARROW));
         if case.server == Server::Jittery {
             let all = picture::<Proved>(&journal, case.title, View::default(), WIDTH);
             let part = picture::<Proved>(&journal, ZOOM, zoom(), WIDTH);
@@ -154,9 +165,13 @@ pub fn files() -> Vec<(PathBuf, Vec<u8>)> {
     }
     let latest = late::SETTINGS.overrun.into();
     let journal = late::play::<Proved>(latest, late::LENGTH).journal();
-    files.extend(shipped(LATE, &late::RESERVATIONS, &journal, WIDTH));
+    let reserved = (&late::RESERVATIONS[..], &[][..]);
+    files.extend(shipped(LATE, reserved, &journal, WIDTH));
     let journal = raised::play::<Proved>(raised::LENGTH).journal();
-    files.extend(shipped(RAISED, &RESERVATIONS, &journal, WIDTH));
+    files.extend(shipped(RAISED, (&RESERVATIONS, &[]), &journal, WIDTH));
+    let journal = spare::play::<Proved>(spare::LENGTH).journal();
+    let threads = (&RESERVATIONS[..], &spare::WEIGHTS[..]);
+    files.extend(shipped(SPARE, threads, &journal, WIDTH));
     files
 }
 

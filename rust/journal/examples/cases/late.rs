@@ -30,6 +30,7 @@ pub fn play<E: Engine>(latest: u64, length: u64) -> Outcome {
     let load = Load {
         settings: SETTINGS,
         reservations: &RESERVATIONS,
+        weights: &[],
         bursts: &BURSTS,
         changes: &[],
     };

@@ -1,6 +1,7 @@
 //! A controller whose exporter sends results to a server, by the rule and by a
-//! broken one, one whose timer fires late, and one that gives readout more for a
-//! while. The page docs/CASES.md shows what comes of it.
+//! broken one, one whose timer fires late, one that gives readout more for a
+//! while, and one that prints reports and packs logs in spare time. The page
+//! docs/CASES.md shows what comes of it.
 //!
 //! - Without an argument: the shares, as a table.
 //! - `--broken`: the picture of the broken rule, to standard output.
@@ -14,6 +15,7 @@ mod controller;
 mod files;
 mod late;
 mod raised;
+mod spare;
 mod table;
 
 use std::io::{self, Write};

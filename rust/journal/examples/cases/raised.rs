@@ -17,6 +17,7 @@ pub fn play<E: Engine>(length: u64) -> Outcome {
     let load = Load {
         settings: Settings::default(),
         reservations: &RESERVATIONS,
+        weights: &[],
         bursts: &[u64::MAX; THREADS],
         changes: &CHANGES,
     };

@@ -85,6 +85,7 @@ Makes blocks of a text with one record a line:
   open 2 parent 0 ceiling 300
   close 2
   admit 5 group 0 reservation 500
+  admit 9 weight 3       a best-effort thread
   remove 5
   wake 5
   change 5 reservation 700
@@ -93,8 +94,8 @@ Makes blocks of a text with one record a line:
   report reason 200 5    any other reason by its number
 
 Numbers are decimal: groups, threads and reasons 0 to 255, thousandth, overrun,
-ceiling and reservation 0 to 65535, interval and ticks 0 to 4294967295. A record
-that the scheduler refuses is a record all the same.
+ceiling, reservation and weight 0 to 65535, interval and ticks 0 to 4294967295. A
+record that the scheduler refuses is a record all the same.
 
   block 3                from here on records go into block 3, up to 31 of them;
                          the number may be left out
@@ -139,16 +140,18 @@ Usage: journal run [OPTION].. [FILE]
 
 As 'journal decode', with a comment at each record: the five numbers that mtrrun
 prints for it (record number, answer, thread, slice, threads before it), and in
-words why it was refused or how many ticks a report used beyond its slice. The
-answers are computed anew by the proved library; a journal does not hold them.
+words why it was refused, how many ticks a report used beyond its slice, or that a
+dispatch was idle or took a best-effort thread. The answers are computed anew by
+the proved library; a journal does not hold them.
 
 Options:
   --why RECORD        below the dispatch of this number, as comments, what mtrwhy
                       tells of it: the threads before the chosen one in the list,
-                      or all where it is idle, and the record at which each
-                      blocked; or why it was refused. May be given for several. A
-                      record that is absent, no dispatch or not run is bad input.
-                      The names of threads go with it:
+                      all of these where it took a best-effort thread, and the
+                      best-effort ones too where it is idle, and the record at
+                      which each blocked; or why it was refused. May be given for
+                      several. A record that is absent, no dispatch or not run is
+                      bad input. The names of threads go with it:
 {NAMES}{FIRST}{OUTPUT}"
     )
 }
@@ -159,18 +162,19 @@ pub fn draw() -> String {
 Usage: journal draw [OPTION].. [FILE]
 
 Makes an SVG picture of a journal: who had the core when, a lane a thread, with
-blocked spans, wakes and refusals; below it the lag of each thread with the most
-that the share guarantee lets it be, and the refusals in words. What a run used
-beyond its slice is marked, and while others wait the most of their lags grows by
-it. A change of a reservation is marked with the thousandths before and after it;
-from there on the thread's lag and the most of it begin anew. Where groups were
-opened, the lanes stand group by group with the ceilings. Time is the meter, which
-moves when a report is accepted. From a damaged or missing block to the next
-accepted start nothing is run; the picture shows that as a hatched gap. A journal
-with many records is thinned out: each pixel column shows what part of its time a
-thread had the core or was blocked, and the least and the greatest lag in it. With
---from and --to a part of it is drawn span by span. All is computed anew from the
-journal's calls by the proved library.
+blocked spans, wakes and refusals; below it the lag of each reserved thread with
+the most that the share guarantee lets it be, and the refusals in words. What a
+run used beyond its slice is marked, and while others wait the most of their lags
+grows by it. A change of a reservation is marked with the thousandths before and
+after it; from there on the thread's lag and the most of it begin anew. Where
+groups were opened, the lanes stand group by group with the ceilings. Best-effort
+threads stand below the others, each with its weight and its part of what all of
+them had. Time is the meter, which moves when a report is accepted. From a damaged
+or missing block to the next accepted start nothing is run; the picture shows that
+as a hatched gap. A journal with many records is thinned out: each pixel column
+shows what part of its time a thread had the core or was blocked, and the least
+and the greatest lag in it. With --from and --to a part of it is drawn span by
+span. All is computed anew from the journal's calls by the proved library.
 
 Options:
   --title TEXT        the picture's title; else the name of FILE
@@ -187,12 +191,19 @@ Usage: journal stats [OPTION].. [FILE]
 Tells of each thread its share, runs and wakes, its longest run and wait and its
 largest lag with the records that they begin with, the most that the share
 guarantee lets the lag be there, what its runs used beyond their slices and the
-changes of its reservation; then the refusals by number, in words. All is computed
-anew from the journal's calls by the proved library.
+changes of its reservation; of best-effort threads how they shared what was left,
+and how far two of them came apart from their weights, with the most that they
+may; then the refusals by number, in words. All is computed anew from the
+journal's calls by the proved library.
 
 Options:
   --csv               comma-separated values, a thread a line; times in ticks of
                       a microsecond, lags and bounds in thousandths of ticks
+  --csv --best-effort
+                      comma-separated values, a best-effort thread a line: its
+                      weight, its part of what all of them had, and the thread
+                      that it came farthest apart from, in ticks times the other's
+                      weight, with the most that these may be
   --csv --refusals    comma-separated values, a kind of refusal a line
 {VIEW}{NAMES}{FIRST}{OUTPUT}"
     )

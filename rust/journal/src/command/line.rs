@@ -71,6 +71,7 @@ pub struct Job {
     pub pack: bool,
     pub csv: bool,
     pub refusals: bool,
+    pub best_effort: bool,
     /// Dispatches to tell more of, by record number.
     pub why: BTreeSet<u64>,
     pub names: Option<PathBuf>,
@@ -108,6 +109,7 @@ pub fn parse(mut words: impl Iterator<Item = OsString>) -> Result<Asked, Stop> {
         pack: false,
         csv: false,
         refusals: false,
+        best_effort: false,
         why: BTreeSet::new(),
         names: None,
         options: Options::default(),
@@ -135,6 +137,12 @@ pub fn parse(mut words: impl Iterator<Item = OsString>) -> Result<Asked, Stop> {
     }
     if job.refusals && !job.csv {
         return usage("--refusals goes with --csv; the text has them anyway".into());
+    }
+    if job.best_effort && !job.csv {
+        return usage("--best-effort goes with --csv; the text has them anyway".into());
+    }
+    if job.best_effort && job.refusals {
+        return usage("--refusals or --best-effort, not both".into());
     }
     let named = job.names.is_some() || job.options.names != Names::default();
     if command == Command::Run && named && job.why.is_empty() {
@@ -222,6 +230,7 @@ impl Job {
             ("--pack", Command::Encode) => self.pack = true,
             ("--csv", Command::Stats) => self.csv = true,
             ("--refusals", Command::Stats) => self.refusals = true,
+            ("--best-effort", Command::Stats) => self.best_effort = true,
             ("--width", Command::Draw) => {
                 let width = option.number(WIDTHS.1.into())? as u32;
                 if width < WIDTHS.0 {

@@ -166,10 +166,11 @@ fn write_figures(
         .map_err(|message| Stop::bad(format!("{name}: {message}")))?;
     progress.clear();
     let names = &job.options.names;
-    let text = match (job.csv, job.refusals) {
-        (false, _) => figures.text(name, names),
-        (true, false) => figures.csv(names),
-        (true, true) => figures.refusals_csv(),
+    let text = match (job.csv, job.refusals, job.best_effort) {
+        (false, _, _) => figures.text(name, names),
+        (true, true, _) => figures.refusals_csv(),
+        (true, _, true) => figures.best_effort_csv(names),
+        (true, false, false) => figures.csv(names),
     };
     write_all(job.output.as_deref(), text.as_bytes())?;
     Ok(figures.tally())

@@ -7,8 +7,9 @@ use crate::codec::THREADS;
 use crate::scale::{duration, exact};
 use crate::track::Change;
 
-use super::layout::{Lane, Panel};
+use super::layout::Panel;
 use super::picture::Picture;
+use super::rows::Lane;
 use super::svg::{escape, width, Anchor, C};
 use super::FEW_TITLES;
 

@@ -8,7 +8,8 @@ use crate::scale::exact;
 use crate::track::{At, Change, Life, Limit, Overrun, Refused, Sink, Span, What};
 
 use super::changes::Marks;
-use super::layout::{Lane, Layout, Panel};
+use super::layout::{Layout, Panel};
+use super::rows::Lane;
 use super::svg::{escape, C};
 
 /// Narrowest run that is drawn.
@@ -84,6 +85,24 @@ impl<'a> Exact<'a> {
         let runs = &mut self.shapes[lane.thread as usize].runs;
         bar(runs, "run", lane, (x0, x1), title);
     }
+
+    /// Goes on with the line of a thread's lag.
+    fn lag(&mut self, span: &Span, panel: Panel, x0: f64, x1: f64) {
+        let shapes = &mut self.shapes[span.thread as usize];
+        let (y0, y1) = (panel.y(span.lag as f64), panel.y(span.last_lag() as f64));
+        match shapes.last {
+            Some((at, lag)) if at == span.from => {
+                if lag != span.lag {
+                    let _ = write!(shapes.lag, "V{}", C(y0));
+                }
+            }
+            _ => {
+                let _ = write!(shapes.lag, "M{} {}", C(x0), C(y0));
+            }
+        }
+        let _ = write!(shapes.lag, "L{} {}", C(x1), C(y1));
+        shapes.last = Some((span.end(), span.last_lag()));
+    }
 }
 
 /// A stretch of a lane's bar: an element of its own if it has a title, else a
@@ -105,9 +124,7 @@ fn bar(out: &mut String, class: &str, lane: Lane, (x0, x1): (f64, f64), title: O
 impl Sink for Exact<'_> {
     fn span(&mut self, span: &Span) {
         let n = span.thread as usize;
-        let (Some(lane), Some(panel)) = (self.lanes[n], self.panels[n]) else {
-            return;
-        };
+        let Some(lane) = self.lanes[n] else { return };
         let (x0, x1) = (self.layout.x(span.from), self.layout.x(span.end()));
         let middle = lane.top + lane.bar / 2.0;
         let names = self.names;
@@ -132,20 +149,9 @@ impl Sink for Exact<'_> {
                 let _ = write!(blocked, "M{} {}h{}v{}h{}z", C(x0), C(y), C(w), C(h), C(-w));
             }
         }
-        let shapes = &mut self.shapes[n];
-        let (y0, y1) = (panel.y(span.lag as f64), panel.y(span.last_lag() as f64));
-        match shapes.last {
-            Some((at, lag)) if at == span.from => {
-                if lag != span.lag {
-                    let _ = write!(shapes.lag, "V{}", C(y0));
-                }
-            }
-            _ => {
-                let _ = write!(shapes.lag, "M{} {}", C(x0), C(y0));
-            }
+        if let Some(panel) = self.panels[n].filter(|_| !span.best_effort) {
+            self.lag(span, panel, x0, x1);
         }
-        let _ = write!(shapes.lag, "L{} {}", C(x1), C(y1));
-        shapes.last = Some((span.end(), span.last_lag()));
     }
 
     fn empty_run(&mut self, thread: u8, at: At, record: u64) {

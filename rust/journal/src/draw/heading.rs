@@ -174,6 +174,10 @@ fn facts(s: &Survey, part: bool) -> Vec<String> {
         1 => facts.push("1 idle dispatch".into()),
         n => facts.push(format!("{} idle dispatches", count(n))),
     }
+    if s.fairness.weights() > 0 {
+        let time = duration(s.fairness.ticks() as f64);
+        facts.push(format!("best effort {time}"));
+    }
     if s.overruns() > 0 {
         facts.push(counted(s.overruns(), "overrun"));
     }

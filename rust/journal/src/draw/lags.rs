@@ -3,8 +3,9 @@
 use crate::scale::duration;
 
 use super::exact::Exact;
-use super::layout::{Panel, MARGIN};
+use super::layout::Panel;
 use super::picture::Picture;
+use super::rows::MARGIN;
 use super::svg::{fit, width, Anchor, C};
 use super::thin::{self, Thin};
 use super::Detail;

@@ -7,8 +7,9 @@ use crate::track::{End, Gap};
 use crate::words;
 
 use super::exact::{Cross, Exact};
-use super::layout::{Heading, Lane, INDENT, MARGIN, REFUSALS};
+use super::layout::REFUSALS;
 use super::picture::{cross, Picture};
+use super::rows::{Heading, Lane, INDENT, MARGIN};
 use super::svg::{bold, escape, fit, width, Anchor, C};
 use super::thin::{self, Thin};
 
@@ -177,7 +178,7 @@ impl Picture<'_> {
             let y = l.axis - l.pitch + 18.0;
             let text = "No thread was admitted.";
             self.svg.text(l.left, y, Anchor::Start, "quiet", text);
-        } else {
+        } else if !self.survey.threads[l.lanes[0].thread as usize].best_effort {
             let head = l.flags + 17.0;
             let small = "small";
             self.svg.text(MARGIN, head, Anchor::Start, small, "thread");
@@ -190,8 +191,14 @@ impl Picture<'_> {
             let x = l.right + 14.0;
             self.svg.text(x, head, Anchor::Start, small, share);
         }
+        if let Some(top) = l.best_effort {
+            self.best_effort_heading(top);
+        }
         for lane in &l.lanes {
-            self.lane_label(lane);
+            match self.survey.threads[lane.thread as usize].best_effort {
+                true => self.best_effort_label(lane),
+                false => self.lane_label(lane),
+            }
         }
         if let Some(top) = l.refusals {
             let y = top + 13.0;
@@ -203,16 +210,32 @@ impl Picture<'_> {
     }
 
     fn lane_label(&mut self, lane: &Lane) {
+        let t = &self.survey.threads[lane.thread as usize];
+        let told = self.options.names.told(lane.thread);
+        let what = format!(
+            "reservation {} \u{2030} in group {}",
+            t.reserved.told(),
+            t.group
+        );
+        let reserved = self.layout.reserved(t);
+        self.lane_begins(lane, &what, &reserved);
+        let share = format!("{} \u{2030}", t.share);
+        let (word, how) = ending(t.end);
+        let title = format!("share of {told}, {how}: {share}");
+        self.lane_ends(lane, &share, word, &title);
+    }
+
+    /// At the left of a lane the thread's name, what it has, and more when it is
+    /// pointed at.
+    pub(super) fn lane_begins(&mut self, lane: &Lane, what: &str, has: &str) {
         let l = self.layout;
         let t = &self.survey.threads[lane.thread as usize];
         let names = &self.options.names;
         let y = lane.top + lane.bar / 2.0 + 4.0;
         let name = fit(&names.label(lane.thread), 12.0, l.room(lane.label));
-        let told = names.told(lane.thread);
         let mut title = format!(
-            "{told}: reservation {} \u{2030} in group {}, {}, {}",
-            t.reserved.told(),
-            t.group,
+            "{}: {what}, {}, {}",
+            names.told(lane.thread),
             counted(t.runs, "dispatch").replace("dispatchs", "dispatches"),
             counted(t.wakes, "wake")
         );
@@ -224,17 +247,16 @@ impl Picture<'_> {
             let _ = write!(title, ", {}", counted(t.changes, "change"));
         }
         self.svg.titled(lane.label, y, "name", &name, &title);
-        let reserved = l.reserved(t);
         let x = l.left - 10.0;
-        self.svg.text(x, y, Anchor::End, "quiet", &reserved);
+        self.svg.text(x, y, Anchor::End, "quiet", has);
+    }
 
-        let share = format!("{} \u{2030}", t.share);
-        let (word, how) = ending(t.end);
-        let title = format!("share of {told}, {how}: {share}");
-        let x = l.right + 14.0;
-        self.svg.titled(x, y, "name", &share, &title);
+    /// At the right of a lane what the thread got, and a word on its end.
+    pub(super) fn lane_ends(&mut self, lane: &Lane, share: &str, word: &str, title: &str) {
+        let (x, y) = (self.layout.right + 14.0, lane.top + lane.bar / 2.0 + 4.0);
+        self.svg.titled(x, y, "name", share, title);
         if !word.is_empty() {
-            let x = x + bold(&share, 12.0) + 4.0;
+            let x = x + bold(share, 12.0) + 4.0;
             self.svg.text(x, y, Anchor::Start, "small", word);
         }
     }
@@ -264,7 +286,7 @@ impl Picture<'_> {
 }
 
 /// How a thread's time ended, in a word and in more.
-fn ending(end: Option<End>) -> (&'static str, String) {
+pub fn ending(end: Option<End>) -> (&'static str, String) {
     match end {
         None | Some(End::Later) => ("", "in the part shown".into()),
         Some(End::Stays(_)) => ("", "at the end".into()),

@@ -1,9 +1,10 @@
 //! Where things stand in the picture.
 
-use crate::codec::GROUPS;
 use crate::names::Names;
 use crate::track::{At, End, Survey, Thread};
 
+use super::best_effort::weight;
+use super::rows::{rows, stack, Heading, Lane, Row, INDENT, MARGIN};
 use super::svg::{bold, width as wide, wrap};
 
 /// Widths that a picture may have, and the one it has.
@@ -13,34 +14,12 @@ pub const WIDTH: u32 = 1120;
 const LEFT: (f64, f64) = (120.0, 0.4);
 /// From the plots' end to that of the picture, also with words after shares.
 const RIGHT: (f64, f64) = (84.0, 110.0);
-/// Where labels begin, and what a lane's reservation takes beside its name.
-pub const MARGIN: f64 = 16.0;
+/// What a lane's reservation takes beside its name, at the least.
 const RESERVED: f64 = 66.0;
-/// A level of groups moves its lanes' labels in by so much.
-pub const INDENT: f64 = 10.0;
 
 /// Widest gap, and the most that all gaps together take of a plot.
 const GAP: f64 = 24.0;
 const GAPS: f64 = 0.3;
-
-/// A thread's lane: the bar of who has the core, its wakes below it.
-#[derive(Clone, Copy, Debug)]
-pub struct Lane {
-    pub thread: u8,
-    pub top: f64,
-    pub bar: f64,
-    /// Where its label begins.
-    pub label: f64,
-}
-
-/// A group's line above its lanes, and where the last of them ends.
-#[derive(Clone, Copy, Debug)]
-pub struct Heading {
-    pub group: u8,
-    pub depth: usize,
-    pub top: f64,
-    pub bottom: f64,
-}
 
 /// A thread's lag over time. Lags above 0 and below 0 share a scale unless
 /// the lowest lies farther from 0 than the top does.
@@ -104,6 +83,8 @@ pub struct Layout {
     /// Lines of labels above the lanes, for starts and damaged blocks.
     pub flags: f64,
     pub groups: Vec<Heading>,
+    /// Top of the line above the lanes of best-effort threads, if there are any.
+    pub best_effort: Option<f64>,
     pub lanes: Vec<Lane>,
     pub pitch: f64,
     /// Top of the lane of refusals, if there are any.
@@ -126,72 +107,15 @@ pub struct Layout {
     pub height: f64,
 }
 
-/// Above the bar of a lane with changes of its reservation.
-const CHANGES: f64 = 13.0;
 /// Height of the refusals' lane.
 pub const REFUSALS: f64 = 30.0;
 /// Between two lag plots.
 const PANELS: f64 = 26.0;
 /// From the lanes' lower edge to the end of the axis below it.
 const AXIS: f64 = 42.0;
-/// Over the lag plots, also where reservations change.
-const LAGS: [&str; 2] = [
-    "Lag: processor time owed to a thread since its admission, last wake or yield; below 0 it is ahead",
-    "Lag: processor time owed to a thread since its admission, last wake, yield or change; below 0 it is ahead",
-];
-/// Height of a group's line.
-const GROUP: f64 = 22.0;
 /// Height of a line of words about refusals, and the most of them.
 pub const WORDS: f64 = 18.0;
 pub const MOST_WORDS: usize = 24;
-
-/// What stands beside the plot, from above.
-#[derive(Clone, Copy, Debug, PartialEq, Eq)]
-enum Row {
-    Group { group: u8, depth: usize },
-    Thread { thread: u8, depth: usize },
-}
-
-/// Lanes in the order of their numbers or, if groups were opened, group by
-/// group down the tree.
-fn rows(survey: &Survey) -> Vec<Row> {
-    let numbers: Vec<u8> = survey.admitted().collect();
-    if survey.groups.iter().all(Option::is_none) {
-        let lane = |thread| Row::Thread { thread, depth: 0 };
-        return numbers.into_iter().map(lane).collect();
-    }
-    // Parents have lower numbers.
-    let mut shown = [false; GROUPS];
-    for group in (0..GROUPS).rev() {
-        let lanes = numbers
-            .iter()
-            .any(|&n| survey.threads[n as usize].group as usize == group);
-        let entry = survey.groups[group];
-        shown[group] |= lanes || entry.is_some_and(|entry| entry.open);
-        if let Some(entry) = entry.filter(|_| shown[group]) {
-            shown[entry.parent as usize] = true;
-        }
-    }
-    let mut rows = Vec::new();
-    below(survey, &shown, 0, 0, &mut rows);
-    rows
-}
-
-/// A group's line, its lanes and the groups below it.
-fn below(survey: &Survey, shown: &[bool; GROUPS], group: u8, depth: usize, rows: &mut Vec<Row>) {
-    rows.push(Row::Group { group, depth });
-    for thread in survey.admitted() {
-        if survey.threads[thread as usize].group == group {
-            rows.push(Row::Thread { thread, depth });
-        }
-    }
-    for child in group + 1..GROUPS as u8 {
-        let entry = survey.groups[child as usize];
-        if shown[child as usize] && entry.is_some_and(|entry| entry.parent == group) {
-            below(survey, shown, child, depth + 1, rows);
-        }
-    }
-}
 
 impl Layout {
     /// The layout of a picture of a width below a head that ends somewhere,
@@ -222,7 +146,8 @@ impl Layout {
             true => head + 24.0,
             false => head + 42.0,
         };
-        let (groups, lanes, mut y) = stack(&rows, survey, flags + 26.0, pitch, bar);
+        let stack = stack(&rows, survey, flags + 26.0, pitch, bar);
+        let mut y = stack.end;
         if threads.is_empty() {
             // Room for a line that says so.
             y += pitch;
@@ -233,12 +158,11 @@ impl Layout {
         }
         let axis = y;
         let heading = axis + AXIS + 34.0;
-        let heads = LAGS[usize::from(survey.changes() > 0)];
-        let headings = wrap(heads, 14.0, width - 32.0);
+        let headings = wrap(&lags(survey, stack.best_effort), 14.0, width - 32.0);
         let legend = heading + 20.0 * headings.len() as f64;
-        let (panels, end) = panels(survey, &lanes, legend + 14.0, panel);
+        let (panels, end) = panels(survey, &stack.lanes, legend + 14.0, panel);
         let floor = end - PANELS + 12.0;
-        let plots = if threads.is_empty() { axis } else { floor };
+        let plots = if panels.is_empty() { axis } else { floor };
         let key = plots + AXIS + 30.0;
         let words = match survey.refusals.len().min(MOST_WORDS) {
             0 => 0.0,
@@ -257,8 +181,9 @@ impl Layout {
             reserved,
             told,
             flags,
-            groups,
-            lanes,
+            groups: stack.groups,
+            best_effort: stack.best_effort,
+            lanes: stack.lanes,
             pitch,
             refusals,
             axis,
@@ -304,13 +229,19 @@ fn said(t: &Thread, told: bool) -> String {
     }
 }
 
-/// The width for what the threads reserve, and whether there is room to tell how
-/// it changed.
+/// The width for what the threads have, and whether there is room to tell how
+/// reservations changed.
 fn reserved(survey: &Survey, threads: &[u8], room: f64) -> (f64, bool) {
+    let fairness = &survey.fairness;
     let width = |told: bool| {
-        let threads = threads.iter().map(|&n| &survey.threads[n as usize]);
-        let changed = threads.filter(|t| t.reserved.changes > 0);
-        let widths = changed.map(|t| wide(&said(t, told), 12.0) + 16.0);
+        let texts = threads.iter().filter_map(|&n| {
+            let t = &survey.threads[n as usize];
+            match t.best_effort {
+                true => fairness.portion(n).map(|p| weight(fairness, &p)),
+                false => (t.reserved.changes > 0).then(|| said(t, told)),
+            }
+        });
+        let widths = texts.map(|text| wide(&text, 12.0) + 16.0);
         widths.fold(RESERVED, f64::max)
     };
     match width(true) <= room {
@@ -319,13 +250,34 @@ fn reserved(survey: &Survey, threads: &[u8], room: f64) -> (f64, bool) {
     }
 }
 
-/// Puts the lag plots below each other, and answers where the next would begin.
-/// Where a bound changes its plot is higher, since the steps may be small.
+/// What stands over the lag plots, also beside best-effort threads and where
+/// reservations change.
+fn lags(survey: &Survey, best_effort: Option<f64>) -> String {
+    let reserved = if best_effort.is_some() {
+        "reserved "
+    } else {
+        ""
+    };
+    let last = match survey.changes() {
+        0 => "wake or yield",
+        _ => "wake, yield or change",
+    };
+    format!(
+        "Lag: processor time owed to a {reserved}thread since its admission, last {last}; \
+         below 0 it is ahead"
+    )
+}
+
+/// Puts the lag plots of reserved threads below each other, and answers where the
+/// next would begin. Where a bound changes its plot is higher, since the steps may be small.
 fn panels(survey: &Survey, lanes: &[Lane], top: f64, height: f64) -> (Vec<Panel>, f64) {
     let mut y = top;
     let mut panels = Vec::new();
     for lane in lanes {
         let t = &survey.threads[lane.thread as usize];
+        if t.reserved_lives == 0 {
+            continue;
+        }
         let largest = t.bound.max(t.largest.lag);
         let height = height * if t.changes > 0 { 1.5 } else { 1.0 };
         panels.push(Panel::new(lane.thread, y, height, largest, t.lowest));
@@ -344,7 +296,7 @@ fn labels(rows: &[Row], threads: &[u8], names: &Names) -> f64 {
     let longest = threads.iter().map(|&n| bold(&names.label(n), 12.0));
     let deepest = rows.iter().map(|row| match row {
         Row::Group { depth, .. } => (depth + 1) as f64 * INDENT,
-        Row::Thread { .. } => 0.0,
+        Row::BestEffort | Row::Thread { .. } => 0.0,
     });
     longest.fold(0.0, f64::max) + deepest.fold(0.0, f64::max)
 }
@@ -361,49 +313,4 @@ fn scale(survey: &Survey, plot: f64) -> (f64, f64) {
         0 => (gap, 0.0),
         time => (gap, free / time as f64),
     }
-}
-
-/// Puts the rows below each other, and answers where they end.
-fn stack(
-    rows: &[Row],
-    survey: &Survey,
-    top: f64,
-    pitch: f64,
-    bar: f64,
-) -> (Vec<Heading>, Vec<Lane>, f64) {
-    let mut y = top;
-    let (mut groups, mut lanes): (Vec<Heading>, Vec<Lane>) = (Vec::new(), Vec::new());
-    for row in rows {
-        match *row {
-            Row::Group { group, depth } => {
-                groups.push(Heading {
-                    group,
-                    depth,
-                    top: y,
-                    bottom: y + GROUP,
-                });
-                y += GROUP;
-            }
-            Row::Thread { thread, depth } => {
-                let inside = if groups.is_empty() { 0 } else { depth + 1 };
-                if survey.threads[thread as usize].changes > 0 {
-                    y += CHANGES;
-                }
-                lanes.push(Lane {
-                    thread,
-                    top: y,
-                    bar,
-                    label: MARGIN + inside as f64 * INDENT,
-                });
-                y += pitch;
-            }
-        }
-    }
-    // A group reaches down to the next line that is not below it.
-    for i in 0..groups.len() {
-        let depth = groups[i].depth;
-        let next = groups[i + 1..].iter().find(|later| later.depth <= depth);
-        groups[i].bottom = next.map_or(y, |later| later.top) - 6.0;
-    }
-    (groups, lanes, y)
 }

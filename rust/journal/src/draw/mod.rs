@@ -1,5 +1,6 @@
-//! A journal as a picture: who had the core when, a lane a thread, and below
-//! it each thread's lag with the bound of the share guarantee.
+//! A journal as a picture: who had the core when, a lane a thread, those of
+//! best-effort threads apart, and below it each reserved thread's lag with the
+//! bound of the share guarantee.
 //!
 //! The journal is run twice: once for what there is in all, from which the
 //! picture is laid out, and once for the shapes. A journal or a part of few
@@ -7,6 +8,7 @@
 //! it. So the size of the picture does not grow with the journal.
 
 mod axis;
+mod best_effort;
 mod changes;
 mod exact;
 mod heading;
@@ -15,6 +17,7 @@ mod lags;
 mod lanes;
 mod layout;
 mod picture;
+mod rows;
 mod svg;
 mod thin;
 

@@ -118,6 +118,9 @@ impl Sink for Thin<'_> {
             What::Wait => {}
             What::Blocked => cover(layout, &mut columns.blocked, x0, x1),
         }
+        if span.best_effort {
+            return;
+        }
         let (lag, last) = (span.lag as f64, span.last_lag() as f64);
         let slope = if x1 > x0 {
             (last - lag) / (x1 - x0)

@@ -4,8 +4,8 @@ use std::collections::BTreeMap;
 use std::io::{self, Write};
 use std::ops::ControlFlow;
 
-use crate::codec::{self, answer, Record, BLOCK, NONE, RECORD, RECORDS};
-use crate::engine::{Engine, Proved, Reply};
+use crate::codec::{self, answer, kind, Record, BLOCK, RECORD, RECORDS};
+use crate::engine::{Class, Engine, Proved, Reply};
 use crate::playback::{play, Journal, Step};
 use crate::progress::Progress;
 use crate::words;
@@ -118,9 +118,9 @@ const ANSWERS: usize = 42;
 pub type Notes = BTreeMap<u64, Vec<String>>;
 
 /// Writes a journal as text with a comment at each record: the five numbers
-/// that `mtrrun` prints for it, and in words why it was refused or how far a
-/// report overran its slice; below it its notes. Work ends with the first piece
-/// that can't be written.
+/// that `mtrrun` prints for it, and in words why it was refused, how far a report
+/// overran its slice, or that a dispatch was idle or took a best-effort thread;
+/// below it its notes. Work ends with the first piece that can't be written.
 pub fn run(
     journal: Journal,
     notes: &Notes,
@@ -140,10 +140,10 @@ pub fn run(
                 overrun,
             } => {
                 let why = match (reply.answer, overrun) {
-                    (answer::ACCEPTED, 0) if reply.thread == NONE => "idle".into(),
+                    (answer::ACCEPTED, 0) if record.kind == kind::DISPATCH => chosen(engine).into(),
                     (answer::ACCEPTED, 0) => String::new(),
                     (answer::ACCEPTED, ticks) => format!("{ticks} beyond the slice"),
-                    (refusal, _) => words::refusal(&record, refusal, engine.settings()).into(),
+                    (refusal, _) => words::refusal(&record, refusal, engine).into(),
                 };
                 put_answered(&mut text.held, number, &record, &reply, &why);
                 for note in notes.get(&number).into_iter().flatten() {
@@ -167,6 +167,15 @@ pub fn run(
     });
     written?;
     text.finish()
+}
+
+/// What a dispatch chose, in a word, where it was no reserved thread.
+fn chosen(engine: &impl Engine) -> &'static str {
+    match engine.running().map(|thread| engine.class(thread)) {
+        None => "idle",
+        Some(Some(Class::BestEffort { .. })) => "best-effort",
+        Some(_) => "",
+    }
 }
 
 /// Appends a record's line with what it was answered, and more in words.

@@ -56,7 +56,8 @@ impl Of {
     }
 }
 
-/// A kind of record as text: its word and its fields in their order.
+/// A kind of record as text: its word and its fields in their order. Kinds with
+/// the same word begin with the same field; the word after it tells them apart.
 struct Form {
     kind: u8,
     word: &'static str,
@@ -88,8 +89,9 @@ const fn or_none(word: &'static str, of: Of) -> Field {
     }
 }
 
-/// Every kind but the report, whose reason is a word of its own.
-static FORMS: [Form; 8] = [
+/// Every kind but the report, whose reason is a word of its own. Those with the
+/// same word stand beside each other.
+static FORMS: [Form; 9] = [
     Form {
         kind: kind::START,
         word: "start",
@@ -121,6 +123,11 @@ static FORMS: [Form; 8] = [
             named("group", Of::Group),
             named("reservation", Of::Amount),
         ],
+    },
+    Form {
+        kind: kind::BEST_EFFORT,
+        word: "admit",
+        fields: &[first("thread"), named("weight", Of::Amount)],
     },
     Form {
         kind: kind::REMOVE,
@@ -196,35 +203,46 @@ fn get_report(words: &mut Words) -> Result<Record, String> {
     })
 }
 
+/// The forms of the lines that begin with a word.
+fn forms(word: &[u8]) -> Option<&'static [Form]> {
+    let of_it = |form: &Form| form.word.as_bytes() == word;
+    let first = FORMS.iter().position(of_it)?;
+    let more = FORMS[first..].iter().take_while(|form| of_it(form));
+    Some(&FORMS[first..first + more.count()])
+}
+
+fn get_fields(mut forms: &[Form], words: &mut Words) -> Result<Record, String> {
+    let mut record = Record::default();
+    let mut i = 0;
+    while let Some(field) = forms[0].fields.get(i) {
+        if let Some(word) = field.word {
+            if !field.left_out {
+                // Each of the forms has a word here, which tells it from the others.
+                let wanted = forms.iter().filter_map(|form| form.fields[i].word);
+                let found = expect(words, wanted)?;
+                forms = &forms[found..=found];
+            } else if !follows(words, word)? {
+                break;
+            }
+        }
+        let field = &forms[0].fields[i];
+        let name = match field.word {
+            Some(_) => field.name.to_string(),
+            None => format!("the {}", field.name),
+        };
+        let value = number(words.next(), &name, field.of.most())?;
+        field.of.set(&mut record, value);
+        i += 1;
+    }
+    end(words)?;
+    record.kind = forms[0].kind;
+    Ok(record)
+}
+
 /// The record of a line that begins with `word`, and none if no record does.
 pub(super) fn get_record(word: &[u8], words: &mut Words) -> Option<Result<Record, String>> {
     if word == REPORT.as_bytes() {
         return Some(get_report(words).and_then(|record| end(words).map(|()| record)));
     }
-    let form = FORMS.iter().find(|form| form.word.as_bytes() == word)?;
-    let mut read = || {
-        let mut record = Record {
-            kind: form.kind,
-            ..Record::default()
-        };
-        for field in form.fields {
-            if let Some(word) = field.word {
-                if !field.left_out {
-                    expect(words, word)?;
-                } else if !follows(words, word)? {
-                    break;
-                }
-            }
-            let name = match field.word {
-                Some(_) => field.name.to_string(),
-                None => format!("the {}", field.name),
-            };
-            field
-                .of
-                .set(&mut record, number(words.next(), &name, field.of.most())?);
-        }
-        end(words)?;
-        Ok(record)
-    };
-    Some(read())
+    Some(get_fields(forms(word)?, words))
 }

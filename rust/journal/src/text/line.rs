@@ -52,12 +52,22 @@ pub(crate) fn number(word: Option<&[u8]>, name: &str, most: u64) -> Result<u64, 
     }
 }
 
-pub(super) fn expect(words: &mut Words, wanted: &str) -> Result<(), String> {
-    match words.next() {
-        Some(word) if word == wanted.as_bytes() => Ok(()),
-        Some(word) => Err(format!("'{wanted}' expected, {} found", shown(word))),
-        None => Err(format!("the line ends where '{wanted}' is expected")),
+/// Which of some words follows.
+pub(super) fn expect<'w>(
+    words: &mut Words,
+    wanted: impl Iterator<Item = &'w str> + Clone,
+) -> Result<usize, String> {
+    let found = words.next();
+    let follows = |word: &str| found == Some(word.as_bytes());
+    if let Some(which) = wanted.clone().position(follows) {
+        return Ok(which);
     }
+    let wanted: Vec<String> = wanted.map(|word| format!("'{word}'")).collect();
+    let wanted = wanted.join(" or ");
+    Err(match found {
+        Some(word) => format!("{wanted} expected, {} found", shown(word)),
+        None => format!("the line ends where {wanted} is expected"),
+    })
 }
 
 /// Whether a word follows that may be left out with all after it.

@@ -4,16 +4,15 @@
 //! their slices since the lag is counted.
 
 use crate::codec::THREADS;
-use crate::engine::bound;
 
 use super::sink::{At, Limit, Overrun, Sink, What};
 use super::{Alive, Tracker};
 
 impl<S: Sink> Tracker<'_, S> {
-    /// Hands out the bound of a thread's lag, level up to a time. A life without
-    /// length has one too.
+    /// Hands out the bound of a reserved thread's lag, level up to a time. A life
+    /// without length has one too.
     pub(super) fn level(&mut self, n: usize, to: u64) {
-        let Some(alive) = &mut self.alive[n] else {
+        let Some(alive) = self.alive[n].as_mut().filter(|a| !a.class.is_best_effort()) else {
             return;
         };
         if alive.level < to || alive.from.time == to {
@@ -36,7 +35,7 @@ impl<S: Sink> Tracker<'_, S> {
     /// and its present reservation does.
     pub(super) fn unbind(&mut self, n: usize) {
         let Some(alive) = self.alive[n] else { return };
-        let bare = bound(alive.reservation, alive.settings);
+        let bare = alive.class.bound(alive.settings);
         if (alive.bound, alive.bare) != (bare, bare) {
             if alive.level < self.at.time {
                 self.level(n, self.at.time);
@@ -66,7 +65,8 @@ impl<S: Sink> Tracker<'_, S> {
         });
         self.overruns += ticks;
         for n in 0..THREADS {
-            let waits = |alive: &Alive| alive.piece.what == What::Wait;
+            let waits =
+                |alive: &Alive| alive.piece.what == What::Wait && !alive.class.is_best_effort();
             if !self.alive[n].as_ref().is_some_and(waits) {
                 continue;
             }
@@ -79,7 +79,7 @@ impl<S: Sink> Tracker<'_, S> {
                 from: at,
                 to,
                 bound: alive.bound,
-                slope: alive.reservation as i64,
+                slope: alive.slope(What::Wait),
                 bare: alive.bare,
             };
             self.sink.limit(&rising);

@@ -1,10 +1,10 @@
 //! The part of a journal that is looked at, cut out of the whole.
 
 use crate::codec::THREADS;
-use crate::engine::bound;
+use crate::engine::Class;
 
 use super::sink::{
-    At, Begun, Change, End, Gap, Life, Limit, Moment, Overrun, Refused, Sink, Span, What,
+    At, Begun, Change, Effort, End, Gap, Life, Limit, Moment, Overrun, Refused, Sink, Span, What,
 };
 
 /// The part of a journal that is looked at.
@@ -188,20 +188,38 @@ impl<S: Sink> Sink for Clip<'_, S> {
     }
 
     fn life(&mut self, life: &Life) {
+        let mut class = life.class;
         let reserved = self.reserved[life.thread as usize].take();
-        let reservation = reserved.unwrap_or(life.reservation);
+        if let (Class::Reserved { reservation, .. }, Some(reserved)) = (&mut class, reserved) {
+            *reservation = reserved;
+        }
         if let Some((from, to)) = self.window.lived(life.thread, life.from, life.to) {
             self.sink.life(&Life {
                 from,
                 to,
-                reservation,
-                bound: bound(reservation, life.settings),
+                class,
+                bound: class.bound(life.settings),
                 end: match life.to > self.window.to.time {
                     true => End::Later,
                     false => life.end,
                 },
                 ..*life
             });
+        }
+    }
+
+    fn effort(&mut self, thread: u8, at: At, effort: Effort) {
+        let w = self.window;
+        match effort {
+            Effort::Ran { to } => {
+                let (time, to) = w.part(at.time, to);
+                if time < to {
+                    self.sink
+                        .effort(thread, At { time, ..at }, Effort::Ran { to });
+                }
+            }
+            _ if at <= w.to => self.sink.effort(thread, at, effort),
+            _ => {}
         }
     }
 

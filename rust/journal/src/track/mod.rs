@@ -10,10 +10,14 @@
 //! that another thread runs beyond its slice while this one waits, in which both
 //! grow by f per tick. A change of a thread's reservation parts its spans: from
 //! there its lag begins at 0, with the slope and the bound of the new one.
+//!
+//! Best-effort threads have spans and no lag; how fairly they share is counted
+//! from what befalls them all, in its order.
 
 mod bounds;
 mod changes;
 mod clip;
+mod fairness;
 mod sink;
 mod survey;
 mod view;
@@ -24,16 +28,17 @@ mod tests;
 use std::ops::ControlFlow;
 
 use crate::codec::{answer, kind, reason, Record, GROUPS, NONE, THREADS};
-use crate::engine::{bound, Engine, Reply, Settings};
+use crate::engine::{Class, Engine, Reply, Settings};
 use crate::playback::{play, Journal, Step};
 use crate::progress::Progress;
 use crate::words;
 
 pub use clip::{Clip, Window};
+pub use fairness::{Apart, Fairness, Portion};
 pub use sink::{
-    At, Begun, Change, End, Gap, Life, Limit, Moment, Overrun, Refused, Sink, Span, What,
+    At, Begun, Change, Effort, End, Gap, Life, Limit, Moment, Overrun, Refused, Sink, Span, What,
 };
-pub use survey::{Greatest, Group, Longest, Refusals, Reserved, Survey, Thread};
+pub use survey::{thousandths, Greatest, Group, Longest, Refusals, Reserved, Survey, Thread};
 pub use view::{Mark, View};
 
 #[derive(Clone, Copy)]
@@ -51,8 +56,7 @@ struct Piece {
 #[derive(Clone, Copy)]
 struct Alive {
     from: At,
-    reservation: u64,
-    group: u8,
+    class: Class,
     settings: Settings,
     /// The bound of its lag, what it is without overruns, and since when it is
     /// level.
@@ -69,11 +73,10 @@ struct Alive {
 impl Alive {
     /// Growth of the lag per tick while it does something.
     fn slope(&self, what: What) -> i64 {
-        let f = self.reservation as i64;
-        match what {
-            What::Run => f - 1000,
-            What::Wait => f,
-            What::Blocked => 0,
+        match (self.class, what) {
+            (Class::Reserved { reservation, .. }, What::Run) => reservation as i64 - 1000,
+            (Class::Reserved { reservation, .. }, What::Wait) => reservation as i64,
+            (Class::Reserved { .. }, What::Blocked) | (Class::BestEffort { .. }, _) => 0,
         }
     }
 }
@@ -110,6 +113,7 @@ impl<S: Sink> Tracker<'_, S> {
         }
         alive.held = Some(Span {
             thread: n as u8,
+            best_effort: alive.class.is_best_effort(),
             what: piece.what,
             from: At {
                 time: piece.from,
@@ -176,10 +180,18 @@ impl<S: Sink> Tracker<'_, S> {
         }
     }
 
-    /// The thread's time in the list is over; without an end it stays there.
+    /// Something befalls a best-effort thread.
+    fn effort(&mut self, n: usize, at: At, effort: Effort) {
+        if self.alive[n].is_some_and(|alive| alive.class.is_best_effort()) {
+            self.sink.effort(n as u8, at, effort);
+        }
+    }
+
+    /// The thread's time is over; without an end it stays admitted.
     fn dies(&mut self, n: usize, end: Option<End>) {
         self.finish(n);
         self.level(n, self.at.time);
+        self.effort(n, self.at, Effort::Gone);
         if let Some(alive) = self.alive[n].take() {
             if let Some(span) = alive.held {
                 self.sink.span(&span);
@@ -188,10 +200,9 @@ impl<S: Sink> Tracker<'_, S> {
                 thread: n as u8,
                 from: alive.from,
                 to: self.at.time,
-                reservation: alive.reservation,
-                group: alive.group,
+                class: alive.class,
                 settings: alive.settings,
-                bound: bound(alive.reservation, alive.settings),
+                bound: alive.class.bound(alive.settings),
                 end: end.unwrap_or(End::Stays(alive.piece.what)),
             });
         }
@@ -276,9 +287,10 @@ impl<S: Sink> Tracker<'_, S> {
                     at: self.at,
                     number,
                     answer: refused,
-                    words: words::refusal(r, refused, e.settings()),
+                    words: words::refusal(r, refused, e),
                     thread: match r.kind {
-                        kind::ADMIT | kind::REMOVE | kind::WAKE | kind::CHANGE => named,
+                        kind::ADMIT | kind::BEST_EFFORT => named,
+                        kind::REMOVE | kind::WAKE | kind::CHANGE => named,
                         kind::REPORT => self.ran,
                         _ => None,
                     },
@@ -311,42 +323,14 @@ impl<S: Sink> Tracker<'_, S> {
                 self.open[subject] = false;
                 self.sink.group(r.subject, self.at, None);
             }
-            kind::ADMIT => {
-                let (reservation, group) = e.place(r.subject).unwrap_or((0, 0));
-                let bound = bound(reservation, e.settings());
-                self.alive[subject] = Some(Alive {
-                    from: self.at,
-                    reservation,
-                    group,
-                    settings: e.settings(),
-                    bound,
-                    bare: bound,
-                    level: self.at.time,
-                    piece: Piece {
-                        what: What::Wait,
-                        from: self.at.time,
-                        lag: 0,
-                        bound,
-                        overruns: self.overruns,
-                        record: number,
-                        begun: Begun {
-                            time: self.at.time,
-                            record: number,
-                        },
-                    },
-                    held: None,
-                    parted: None,
-                });
-            }
+            kind::ADMIT | kind::BEST_EFFORT => self.admitted(number, r.subject, e),
             kind::REMOVE => self.dies(subject, Some(End::Left(number))),
             kind::WAKE => {
                 self.becomes(subject, What::Wait, e.lag(r.subject), true, number);
+                self.effort(subject, self.at, Effort::Woken);
                 self.sink.wake(r.subject, self.at, number);
             }
-            kind::CHANGE => {
-                let (new, _) = e.place(r.subject).unwrap_or((0, 0));
-                self.changes(subject, new, number);
-            }
+            kind::CHANGE => self.changes(subject, r.amount.into(), number),
             kind::DISPATCH if thread == NONE => self.sink.idle(self.at, number),
             kind::DISPATCH => {
                 let n = thread as u8;
@@ -357,16 +341,55 @@ impl<S: Sink> Tracker<'_, S> {
         }
     }
 
+    /// A thread is admitted, as the engine after it says.
+    fn admitted(&mut self, number: u64, thread: u8, e: &impl Engine) {
+        let Some(class) = e.class(thread) else { return };
+        let settings = e.settings();
+        let bound = class.bound(settings);
+        self.alive[thread as usize] = Some(Alive {
+            from: self.at,
+            class,
+            settings,
+            bound,
+            bare: bound,
+            level: self.at.time,
+            piece: Piece {
+                what: What::Wait,
+                from: self.at.time,
+                lag: 0,
+                bound,
+                overruns: self.overruns,
+                record: number,
+                begun: Begun {
+                    time: self.at.time,
+                    record: number,
+                },
+            },
+            held: None,
+            parted: None,
+        });
+        if let Class::BestEffort { weight } = class {
+            let admitted = Effort::Admitted { weight, settings };
+            self.sink.effort(thread, self.at, admitted);
+        }
+    }
+
     fn reported(&mut self, number: u64, r: &Record, overrun: u64, e: &impl Engine) {
+        let begun = self.at;
         self.at.time += u64::from(r.ticks);
         let Some(ran) = self.ran else { return };
         if overrun > 0 {
             self.overran(ran, overrun, number);
         }
         let n = ran as usize;
+        let to = self.at.time;
+        self.effort(n, begun, Effort::Ran { to });
         match r.reason {
             reason::EXIT => self.dies(n, Some(End::Left(number))),
-            reason::BLOCK => self.becomes(n, What::Blocked, 0, true, number),
+            reason::BLOCK => {
+                self.becomes(n, What::Blocked, 0, true, number);
+                self.effort(n, self.at, Effort::Blocked);
+            }
             reason => {
                 let yields = reason == reason::YIELD;
                 self.becomes(n, What::Wait, e.lag(ran), yields, number);

@@ -1,6 +1,6 @@
 //! What a journal shows, and the trait of those who take it.
 
-use crate::engine::Settings;
+use crate::engine::{Class, Settings};
 
 /// A point in time, and how many gaps lie before it.
 #[derive(Clone, Copy, Debug, PartialEq, Eq, PartialOrd, Ord, Default)]
@@ -31,6 +31,8 @@ pub struct Begun {
 #[derive(Clone, Copy, Debug, PartialEq, Eq)]
 pub struct Span {
     pub thread: u8,
+    /// Of a best-effort thread, whose lag and bounds are 0.
+    pub best_effort: bool,
     pub what: What,
     pub from: At,
     pub to: u64,
@@ -141,7 +143,7 @@ pub struct Change {
     pub new_bound: i64,
 }
 
-/// How a thread's time in the list ended.
+/// How a thread's time ended.
 #[derive(Clone, Copy, Debug, PartialEq, Eq)]
 pub enum End {
     /// By its exit or by a remove, with the record.
@@ -163,13 +165,30 @@ pub struct Life {
     pub from: At,
     pub to: u64,
     /// At the end.
-    pub reservation: u64,
-    pub group: u8,
+    pub class: Class,
     pub settings: Settings,
     /// The most that the share guarantee lets its lag be without overruns, by
-    /// this reservation.
+    /// the reservation at the end; 0 of a best-effort thread.
     pub bound: i64,
     pub end: End,
+}
+
+/// What befalls a best-effort thread.
+#[derive(Clone, Copy, Debug, PartialEq, Eq)]
+pub enum Effort {
+    /// It is admitted and runnable.
+    Admitted {
+        weight: u64,
+        settings: Settings,
+    },
+    Woken,
+    Blocked,
+    /// It has had the core up to this time.
+    Ran {
+        to: u64,
+    },
+    /// Its time is over.
+    Gone,
 }
 
 /// From a damaged or missing block to the next accepted start, or to the end.
@@ -221,11 +240,14 @@ pub trait Sink {
     /// A run went on beyond its slice. Comes before every span that ends there
     /// or later.
     fn overrun(&mut self, _: &Overrun) {}
-    /// A thread's limits follow each other from its admission to its end.
+    /// A reserved thread's limits follow each other from its admission to its end.
     fn limit(&mut self, _: &Limit) {}
     /// A thread's changes come in their order, before its life.
     fn change(&mut self, _: &Change) {}
     fn life(&mut self, _: &Life) {}
+    /// What befalls the best-effort threads comes in the order of time, of all of
+    /// them also where some are shown; before a part all but runs.
+    fn effort(&mut self, _thread: u8, _at: At, _: Effort) {}
     fn wake(&mut self, _thread: u8, _at: At, _record: u64) {}
     fn idle(&mut self, _at: At, _record: u64) {}
     fn refusal(&mut self, _: &Refused) {}

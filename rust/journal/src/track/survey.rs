@@ -5,11 +5,12 @@ use std::cmp::Ordering;
 use std::collections::BTreeMap;
 
 use crate::codec::{GROUPS, THREADS};
-use crate::engine::{Engine, Settings};
+use crate::engine::{Class, Engine, Settings};
 use crate::text::Tally;
 
+use super::fairness::Fairness;
 use super::sink::{
-    At, Begun, Change, End, Gap, Life, Limit, Moment, Overrun, Refused, Sink, Span, What,
+    At, Begun, Change, Effort, End, Gap, Life, Limit, Moment, Overrun, Refused, Sink, Span, What,
 };
 
 /// The longest span of a kind, where it begins and with which record.
@@ -40,7 +41,7 @@ pub struct Greatest {
 
 /// Ticks in thousandths of a time, to the nearest, half to even, as the library
 /// rounds a share; 0 of no time.
-fn thousandths(ticks: u64, time: u64) -> u64 {
+pub fn thousandths(ticks: u64, time: u64) -> u64 {
     if time == 0 {
         return 0;
     }
@@ -123,9 +124,14 @@ pub struct Thread {
     /// Changes of its reservation, and the last.
     pub changes: u64,
     pub last_change: Option<Begun>,
-    /// Of its last life: reservations, group, achieved share and end.
+    /// Lives with a reservation; of the last of them the reservations and the
+    /// group.
+    pub reserved_lives: u64,
     pub reserved: Reserved,
     pub group: u8,
+    /// Of its last life: whether it was a best-effort thread, its achieved share
+    /// and its end.
+    pub best_effort: bool,
     pub share: u64,
     pub end: Option<End>,
     /// Of the life that has not ended yet. Its bound is that of a limit without
@@ -174,6 +180,7 @@ pub struct Survey {
     pub grown: bool,
     pub gaps: Vec<Gap>,
     pub threads: [Thread; THREADS],
+    pub fairness: Fairness,
     pub groups: [Option<Group>; GROUPS],
     /// The thread that runs at the end.
     pub running: Option<u8>,
@@ -196,6 +203,7 @@ impl Survey {
             grown: false,
             gaps: Vec::new(),
             threads: [Thread::default(); THREADS],
+            fairness: Fairness::new(from),
             groups: [None; GROUPS],
             running: None,
         }
@@ -317,25 +325,34 @@ impl Sink for Survey {
         self.settings = life.settings;
         let t = self.thread(life.thread);
         t.lives += 1;
+        t.best_effort = life.class.is_best_effort();
+        t.end = Some(life.end);
+        let time = life.to - life.from.time;
+        let ticks = std::mem::take(&mut t.ticks_now);
+        t.share = thousandths(ticks, time);
+        let Class::Reserved { reservation, group } = life.class else {
+            return;
+        };
+        t.reserved_lives += 1;
         let here = std::mem::take(&mut t.bound_here);
         let bound = match std::mem::take(&mut t.bound_now) {
             0 => here,
             bound => bound,
         };
         t.bound = t.bound.max(bound);
-        t.reserved = std::mem::take(&mut t.reserved_now).end(life.reservation);
-        t.group = life.group;
-        t.end = Some(life.end);
-        let time = life.to - life.from.time;
-        let ticks = std::mem::take(&mut t.ticks_now);
-        t.share = thousandths(ticks, time);
+        t.reserved = std::mem::take(&mut t.reserved_now).end(reservation);
+        t.group = group;
         let mut largest = std::mem::take(&mut t.largest_now);
         if largest.lag == 0 {
             largest.bound = life.bound;
         }
-        if t.lives == 1 || largest.lag > t.largest.lag {
+        if t.reserved_lives == 1 || largest.lag > t.largest.lag {
             t.largest = largest;
         }
+    }
+
+    fn effort(&mut self, thread: u8, at: At, effort: Effort) {
+        self.fairness.take(thread, at, effort);
     }
 
     fn wake(&mut self, thread: u8, _: At, _: u64) {

@@ -2,10 +2,11 @@
 
 mod bounds;
 mod changes;
+mod fairness;
 
 use super::*;
 use crate::codec::{self, RECORDS};
-use crate::engine::Proved;
+use crate::engine::{bound, Proved};
 use model::calls::{self, Call};
 use model::random::{self, Rng};
 use model::rule::Scheduler;
@@ -21,6 +22,8 @@ struct Checked {
     last: Vec<Option<Span>>,
     ticks: u64,
     lives: u64,
+    /// Lives of best-effort threads.
+    efforts: u64,
     /// Overruns, limits that rise, and limits that fall back.
     overruns: u64,
     rises: u64,
@@ -49,11 +52,19 @@ impl Checked {
     }
 }
 
+/// What a reserved thread reserves at the end.
+fn at_the_end(life: &Life) -> u64 {
+    match life.class {
+        Class::Reserved { reservation, .. } => reservation,
+        Class::BestEffort { .. } => panic!("thread {} reserves nothing", life.thread),
+    }
+}
+
 /// What a thread reserves from a time on.
 fn reserved(life: &Life, changes: &[Change], time: u64) -> u64 {
     match changes.iter().rev().find(|c| c.at.time <= time) {
         Some(last) => last.new,
-        None => changes.first().map_or(life.reservation, |next| next.old),
+        None => changes.first().map_or(at_the_end(life), |next| next.old),
     }
 }
 
@@ -69,8 +80,8 @@ fn checked_changes(life: &Life, changes: &[Change]) {
         assert_eq!(c.new_bound, bound(c.new, life.settings));
         before = Some(*c);
     }
-    assert!(before.is_none_or(|last| last.new == life.reservation));
-    assert_eq!(life.bound, bound(life.reservation, life.settings));
+    assert!(before.is_none_or(|last| last.new == at_the_end(life)));
+    assert_eq!(life.bound, bound(at_the_end(life), life.settings));
 }
 
 /// Limits of a life: they follow each other, rise by the reservation of the time
@@ -194,17 +205,30 @@ impl Sink for Checked {
         let n = life.thread as usize;
         let limits = std::mem::take(&mut self.limits[n]);
         let changes = std::mem::take(&mut self.changes[n]);
-        checked_changes(life, &changes);
-        let (rises, falls) = checked_limits(life, &limits, &changes, true);
-        (self.rises, self.falls) = (self.rises + rises, self.falls + falls);
+        let effort = life.class.is_best_effort();
+        if effort {
+            // It has no lag.
+            self.efforts += 1;
+            assert!(limits.is_empty() && changes.is_empty() && life.bound == 0);
+        } else {
+            checked_changes(life, &changes);
+            let (rises, falls) = checked_limits(life, &limits, &changes, true);
+            (self.rises, self.falls) = (self.rises + rises, self.falls + falls);
+        }
         let mut at = life.from;
         let mut before: Option<Span> = None;
         for span in &self.spans[n] {
             // Spans follow each other without a hole.
             assert_eq!(span.from, at);
             at = span.end();
-            within(span, &limits);
-            self.parted += u64::from(checked_slope(life, span, before, &changes));
+            assert_eq!(span.best_effort, effort);
+            if effort {
+                assert_eq!((span.lag, span.slope), (0, 0));
+                assert_eq!((span.bound, span.last_bound), (0, 0));
+            } else {
+                within(span, &limits);
+                self.parted += u64::from(checked_slope(life, span, before, &changes));
+            }
             // Lag goes on or is counted afresh, and like spans are one.
             if let Some(before) = before {
                 let goes_on = (span.lag, span.bound) == (before.last_lag(), before.last_bound);
@@ -248,10 +272,20 @@ fn surveyed(journal: &[u8], checked: &Checked) {
             assert!(!stays);
             continue;
         };
-        assert_eq!(stays, state.place(n).is_some());
+        assert_eq!(stays, state.class(n).is_some());
         if stays {
             assert_eq!(Some(t.share), state.share(n));
-            assert_eq!(Some((t.reserved.last, t.group)), state.place(n));
+            let class = match t.best_effort {
+                true => survey
+                    .fairness
+                    .portion(n)
+                    .map(|p| Class::BestEffort { weight: p.weight }),
+                false => Some(Class::Reserved {
+                    reservation: t.reserved.last,
+                    group: t.group,
+                }),
+            };
+            assert_eq!(class, state.class(n));
             if let Some(span) = checked.last[n as usize] {
                 let lag = state.lag(n);
                 assert!(lag == 0 || span.to < survey.to.time || lag == span.last_lag());
@@ -281,17 +315,18 @@ fn pack(records: &[Record]) -> Vec<u8> {
 #[test]
 fn spans_of_random_journals_are_whole_and_within_the_bound() {
     let mut r = Rng::new(20);
-    let (mut lives, mut overruns, mut parted) = (0, 0, 0);
+    let (mut lives, mut efforts, mut overruns, mut parted) = (0, 0, 0, 0);
     for _ in 0..2000 {
         let journal = random::journal(&mut r);
         let checked = Checked::of(&journal);
         surveyed(&journal, &checked);
         lives += checked.lives;
+        efforts += checked.efforts;
         overruns += checked.overruns;
         parted += checked.parted;
     }
     assert!(lives > 10_000 && overruns > 1000, "{lives} {overruns}");
-    assert!(parted > 1000, "{parted}");
+    assert!(parted > 1000 && efforts > 1000, "{parted} {efforts}");
 }
 
 /// Records of a scheduler with long lives.

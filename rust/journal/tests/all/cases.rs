@@ -131,6 +131,7 @@ fn a_late_timer_changes_no_share() {
     let load = Load {
         settings: late::SETTINGS,
         reservations: &late::RESERVATIONS,
+        weights: &[],
         bursts: &[u64::MAX; late::THREADS],
         changes: &[],
     };
@@ -176,7 +177,7 @@ fn the_table_shows_both_rules() {
 #[test]
 fn the_shipped_files_are_current() {
     let files = files();
-    assert_eq!(files.len(), 17);
+    assert_eq!(files.len(), 20);
     for (path, bytes) in files {
         let shipped = fs::read(&path).unwrap_or_default();
         assert!(shipped == bytes, "{} is out of date", path.display());

@@ -325,7 +325,7 @@ fn random_journals_have_the_changes_that_were_accepted() {
         let counts = rows.map(|row| row.rsplit(',').nth(3).unwrap().parse::<u64>());
         counts.map(|count| count.unwrap()).sum()
     };
-    for _ in 0..400 {
+    for _ in 0..800 {
         let journal = journal(&mut r);
         let mut text = Vec::new();
         let whole = Journal::whole(&journal);

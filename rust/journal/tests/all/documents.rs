@@ -171,7 +171,7 @@ fn the_page_about_journals_shows_what_its_commands_give() {
 fn the_page_about_the_cases_shows_what_its_commands_give() {
     let made = page("CASES.md");
     assert_eq!(made, pictures("CASES.md"));
-    assert_eq!(made.len(), 5);
+    assert_eq!(made.len(), 6);
     // Readout's shares below the three pictures of one controller.
     let shares = [
         play::<Proved>(Server::Steady, LENGTH),

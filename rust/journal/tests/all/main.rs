@@ -1,5 +1,6 @@
 //! Tests of the journal tool from outside, in one program.
 
+mod best_effort;
 mod cases;
 mod change;
 mod command;
@@ -26,6 +27,8 @@ mod files;
 mod late;
 #[path = "../../examples/cases/raised.rs"]
 mod raised;
+#[path = "../../examples/cases/spare.rs"]
+mod spare;
 #[path = "../../examples/cases/table.rs"]
 mod table;
 

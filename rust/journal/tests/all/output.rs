@@ -177,7 +177,8 @@ fn a_result_that_fails_leaves_the_old_file() {
     file.lock().unwrap();
     assert_eq!(code(&run(&["draw", &blocks, "-o", &out], b"")), 0);
     assert!(fs::metadata(&locked).is_ok());
-    drop(file);
+    // Closed alone, it would stay locked by a child that another test is starting.
+    file.unlock().unwrap();
     assert_eq!(code(&run(&["draw", &blocks, "-o", &out], b"")), 0);
     assert_eq!(folder.names(), ["l.blocks", "out.svg"]);
 }

@@ -90,6 +90,18 @@ fn every_kind_has_its_line() {
             "admit 5 group 1 reservation 500",
             record(kind::ADMIT, [5, 1, 0], 500, 0),
         ),
+        (
+            "admit 9 weight 3",
+            record(kind::BEST_EFFORT, [9, 0, 0], 3, 0),
+        ),
+        (
+            "admit 255 weight 65535",
+            record(kind::BEST_EFFORT, [255, 0, 0], 65_535, 0),
+        ),
+        (
+            "admit 0 weight 0",
+            record(kind::BEST_EFFORT, [0, 0, 0], 0, 0),
+        ),
         ("remove 5", record(kind::REMOVE, [5, 0, 0], 0, 0)),
         ("wake 5", record(kind::WAKE, [5, 0, 0], 0, 0)),
         (
@@ -188,7 +200,7 @@ fn an_overrun_limit_in_another_record_is_damage() {
 #[test]
 fn valid_blocks_round_trip() {
     let mut r = Rng::new(1);
-    let mut changes = 0;
+    let (mut changes, mut efforts) = (0, 0);
     for _ in 0..3000 {
         let count = r.below(6) as usize;
         let rows: Vec<Vec<Record>> = (0..count)
@@ -204,23 +216,26 @@ fn valid_blocks_round_trip() {
         assert_eq!(encode(&text).unwrap(), journal);
         assert_eq!(encode(&run(&journal)).unwrap(), journal);
         changes += text.matches("\nchange ").count();
+        efforts += text.matches(" weight ").count();
     }
-    assert!(changes > 5000, "{changes}");
+    assert!(changes > 5000 && efforts > 5000, "{changes} {efforts}");
 }
 
 #[test]
 fn damaged_journals_round_trip() {
     let mut r = Rng::new(2);
-    let (mut damaged, mut changes) = (0, 0);
+    let (mut damaged, mut changes, mut efforts) = (0, 0, 0);
     for _ in 0..3000 {
         let journal = journal(&mut r);
         let text = decode(&journal);
         damaged += text.matches("damaged").count();
         changes += text.matches("\nchange ").count();
+        efforts += text.matches(" weight ").count();
         assert_eq!(encode(&text).unwrap(), journal);
         assert_eq!(encode(&run(&journal)).unwrap(), journal);
     }
     assert!(damaged > 1000 && changes > 10_000, "{damaged} {changes}");
+    assert!(efforts > 10_000, "{efforts}");
 }
 
 #[test]
@@ -316,10 +331,57 @@ fn problems_name_the_line_and_what_is_wrong_with_it() {
             "wake 99999999999999999999999",
             "wake: the thread: '99999999999999999999999' is above 255",
         ),
-        ("admit 5", "admit: the line ends where 'group' is expected"),
+        (
+            "admit",
+            "admit: the line ends before the number of the thread",
+        ),
+        (
+            "admit 5",
+            "admit: the line ends where 'group' or 'weight' is expected",
+        ),
         (
             "admit 5 grp 0 reservation 1",
-            "admit: 'group' expected, 'grp' found",
+            "admit: 'group' or 'weight' expected, 'grp' found",
+        ),
+        (
+            "admit 5 3",
+            "admit: 'group' or 'weight' expected, '3' found",
+        ),
+        (
+            "admit 256 weight 3",
+            "admit: the thread: '256' is above 255",
+        ),
+        (
+            "admit weight 3",
+            "admit: the thread: 'weight' is not a decimal number",
+        ),
+        (
+            "admit 5 weight",
+            "admit: the line ends before the number of weight",
+        ),
+        (
+            "admit 5 weight three",
+            "admit: weight: 'three' is not a decimal number",
+        ),
+        (
+            "admit 5 weight -1",
+            "admit: weight: '-1' is not a decimal number",
+        ),
+        (
+            "admit 5 weight 65536",
+            "admit: weight: '65536' is above 65535",
+        ),
+        (
+            "admit 5 weight 3 group 0",
+            "admit: 'group' after the end of the line",
+        ),
+        (
+            "admit 5 group 0 weight 3",
+            "admit: 'reservation' expected, 'weight' found",
+        ),
+        (
+            "admit 5 group 0",
+            "admit: the line ends where 'reservation' is expected",
         ),
         (
             "admit 5 group 0 reservation",
@@ -554,8 +616,37 @@ fn a_change_with_other_fields_is_damage() {
             ..change
         },
         Record {
-            kind: kind::CHANGE + 1,
+            kind: kind::BEST_EFFORT + 1,
             ..change
+        },
+    ] {
+        assert_eq!(codec::write(0, &[wrong]), Err(19));
+    }
+}
+
+#[test]
+fn an_admission_with_a_weight_and_other_fields_is_damage() {
+    // The thread in byte 1 of the record, the weight in 4 and 5.
+    let admit = record(kind::BEST_EFFORT, [9, 0, 0], 259, 0);
+    let good = blocks(&[&[admit]]);
+    assert_eq!(good[14..20], [10, 9, 0, 0, 3, 1]);
+    for at in 1..16 {
+        let mut block = good.clone();
+        block[14 + at] ^= 1;
+        let (body, check) = block.split_at_mut(BLOCK - 2);
+        check.copy_from_slice(&model::blocks::check((&*body).try_into().unwrap()));
+        let text = decode(&block);
+        let used = [1, 4, 5].contains(&at);
+        assert_eq!(text.starts_with("damaged 0 19 #"), !used, "{at}: {text}");
+        assert_eq!(encode(&text).unwrap(), block);
+    }
+    for wrong in [
+        record(kind::BEST_EFFORT, [9, 1, 0], 3, 0),
+        record(kind::BEST_EFFORT, [9, 0, 1], 3, 0),
+        record(kind::BEST_EFFORT, [9, 0, 0], 3, 1),
+        Record {
+            overrun: 1,
+            ..admit
         },
     ] {
         assert_eq!(codec::write(0, &[wrong]), Err(19));

@@ -6,7 +6,7 @@ use std::fs;
 use std::process::Command;
 
 use journal::codec::{Record, BLOCK, RECORDS};
-use journal::engine::{Engine, Proved, Reply, Settings, METER_LIMIT};
+use journal::engine::{Class, Engine, Proved, Reply, Settings, METER_LIMIT};
 use journal::names::Names;
 use journal::playback::Journal;
 use journal::progress::Progress;
@@ -29,19 +29,20 @@ fn asked(journal: Journal, numbers: impl IntoIterator<Item = u64>) -> Found {
 
 /// As `mtrwhy` prints it.
 fn spelt(found: &Result<Why, String>) -> Vec<u8> {
-    let lines = match found {
-        Ok(Why::Chosen { thread, before }) => {
-            let before: String = before
-                .iter()
-                .map(|at| format!("{} {}\n", at.thread, at.record))
-                .collect();
-            format!("0 {}\n{before}", thread.unwrap_or(64))
-        }
-        Ok(Why::Running(thread)) => format!("12 {thread}\n"),
-        Ok(Why::Full(meter)) => format!("15 {meter}\n"),
-        Err(_) => "21\n".into(),
+    let Ok(why) = found else {
+        return b"21\n".to_vec();
     };
-    lines.into_bytes()
+    let first = match why {
+        Why::Reserved { thread, .. } | Why::BestEffort { thread, .. } => format!("0 {thread}\n"),
+        Why::Idle { .. } => "0 64\n".into(),
+        Why::Running(thread) => format!("12 {thread}\n"),
+        Why::Full(meter) => format!("15 {meter}\n"),
+    };
+    let before = why.before().iter();
+    let before: String = before
+        .map(|at| format!("{} {}\n", at.thread, at.record))
+        .collect();
+    (first + &before).into_bytes()
 }
 
 /// The numbers of a journal's records, of absent ones in it and of some behind it.
@@ -58,24 +59,23 @@ fn journals(r: &mut Rng, each: usize) -> Vec<Vec<u8>> {
 #[test]
 fn every_answer_is_the_models() {
     let mut r = Rng::new(71);
-    let (mut several, mut idle, mut running, mut none) = (0, 0, 0, 0);
+    let (mut several, mut effort, mut idle, mut running, mut none) = (0, 0, 0, 0, 0);
     for blocks in journals(&mut r, 150) {
         for (number, found) in asked(Journal::whole(&blocks), numbers(&blocks)) {
             let model = model::why::why(&blocks, number);
             assert_eq!(spelt(&found), model, "{number}");
             match found {
-                Ok(Why::Chosen { thread, before }) => {
-                    several += usize::from(before.len() > 1);
-                    idle += usize::from(thread.is_none() && !before.is_empty());
-                }
+                Ok(Why::Reserved { before, .. }) => several += usize::from(before.len() > 1),
+                Ok(Why::BestEffort { before, .. }) => effort += usize::from(before.len() > 1),
+                Ok(Why::Idle { before }) => idle += usize::from(!before.is_empty()),
                 Ok(Why::Running(_)) => running += 1,
                 Ok(Why::Full(_)) => panic!("{number}"),
                 Err(_) => none += 1,
             }
         }
     }
-    let least = several.min(idle).min(running).min(none);
-    assert!(least > 200, "{several} {idle} {running} {none}");
+    let least = several.min(effort).min(idle).min(running).min(none);
+    assert!(least > 200, "{several} {effort} {idle} {running} {none}");
 }
 
 /// Asked alone a record has the answer that it has among others.
@@ -97,7 +97,7 @@ fn every_answer_is_that_of_mtrwhy() {
     let folder = Folder::new("why-program");
     let mut r = Rng::new(73);
     let mut all = journals(&mut r, 4);
-    for name in ["listing", "exporter"] {
+    for name in ["listing", "exporter", "spare"] {
         let path = root().join(format!("examples/journals/{name}.blocks"));
         all.push(fs::read(path).unwrap());
     }
@@ -145,7 +145,7 @@ impl Engine for Late {
         None
     }
 
-    fn place(&self, _: u8) -> Option<(u64, u8)> {
+    fn class(&self, _: u8) -> Option<Class> {
         None
     }
 
@@ -176,7 +176,7 @@ fn the_meter_at_its_limit() {
         found[&3].as_ref().unwrap().told(&Names::default()),
         ["refused: the meter is 10000000000017, its limit 10000000000000"]
     );
-    assert!(matches!(found[&1], Ok(Why::Chosen { .. })));
+    assert!(matches!(found[&1], Ok(Why::Reserved { .. })));
 }
 
 const START: &str = "start thousandth 100 interval 20000\n";

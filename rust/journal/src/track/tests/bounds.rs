@@ -108,6 +108,7 @@ impl Count {
         2 * f * (1000 - f) * m + f * p + f * self.others[n] as i64
     }
 
+    /// A life of a reserved thread ends.
     fn ends(&mut self, n: usize) {
         let now = self.now[n];
         if self.largest[n].is_none_or(|(lag, _)| now.0 > lag) {
@@ -134,7 +135,7 @@ impl Count {
         }
         match u64::from(r.reason) {
             BLOCK | YIELD => self.others[ran] = 0,
-            EXIT => self.ends(ran),
+            EXIT if before.threads[ran].is_reserved() => self.ends(ran),
             _ => {}
         }
         for n in (0..THREADS).filter(|&n| self.model.threads[n].status == RUNNABLE) {
@@ -161,7 +162,8 @@ impl Count {
         if record.kind == kind::START && answered == answer::ACCEPTED {
             self.all_end();
         }
-        if record.kind == kind::REMOVE && answered == answer::ACCEPTED {
+        let removed = record.kind == kind::REMOVE && answered == answer::ACCEPTED;
+        if removed && before.threads[n].is_reserved() {
             self.ends(n);
         }
         assert_eq!(calls::run(&mut self.model, &r).answer, answered);
@@ -224,7 +226,7 @@ fn bounds_and_overruns_agree_with_a_count_on_the_model() {
         );
         for (n, t) in survey.threads.iter().enumerate() {
             assert_eq!((t.overruns, t.overrun), count.overruns[n]);
-            let largest = (t.lives > 0).then_some((t.largest.lag, t.largest.bound));
+            let largest = (t.reserved_lives > 0).then_some((t.largest.lag, t.largest.bound));
             assert_eq!(largest, count.largest[n], "thread {n}");
         }
         overruns += survey.overruns();
@@ -265,11 +267,16 @@ impl Sink for Cut {
         let n = life.thread as usize;
         let limits = std::mem::take(&mut self.limits[n]);
         let changes = std::mem::take(&mut self.changes[n]);
+        let spans = std::mem::take(&mut self.spans[n]);
+        if life.class.is_best_effort() {
+            assert!(changes.is_empty() && limits.is_empty());
+            return;
+        }
         checked_changes(life, &changes);
         self.changed += changes.len() as u64;
         self.rises += checked_limits(life, &limits, &changes, false).0;
         let mut before = None;
-        for span in std::mem::take(&mut self.spans[n]) {
+        for span in spans {
             within(&span, &limits);
             checked_slope(life, &span, before, &changes);
             before = Some(span);
@@ -281,7 +288,7 @@ impl Sink for Cut {
 fn parts_keep_the_bounds_and_share_the_overruns() {
     let mut r = Rng::new(22);
     let (mut rises, mut changed) = (0, 0);
-    for _ in 0..200 {
+    for _ in 0..240 {
         let bytes = late_journal(&mut r, 200);
         let journal = Journal::whole(&bytes);
         let mut survey = Survey::new::<Proved>(At::default());

@@ -97,7 +97,7 @@ fn the_lag_begins_at_0_with_the_new_slope_and_bound() {
         ]
     );
     let life = seen.lives.iter().find(|life| life.thread == 1).unwrap();
-    assert_eq!((life.reservation, life.bound), (50, of_50));
+    assert_eq!((at_the_end(life), life.bound), (50, of_50));
 }
 
 #[test]
@@ -149,7 +149,7 @@ fn a_change_to_the_same_counts_the_lag_afresh() {
     assert!(seen
         .lives
         .iter()
-        .any(|l| (l.thread, l.reservation) == (2, 1)));
+        .any(|l| (l.thread, at_the_end(l)) == (2, 1)));
 }
 
 /// The part between two times.
@@ -176,7 +176,7 @@ fn parts_have_the_reservations_of_their_time() {
     ] {
         let seen = seen(&journal, &between(from, to));
         let life = seen.lives.iter().find(|life| life.thread == 1).unwrap();
-        assert_eq!(life.reservation, reservation, "{from} to {to}");
+        assert_eq!(at_the_end(life), reservation, "{from} to {to}");
         assert_eq!(life.bound, bound(reservation, life.settings));
         assert_eq!(seen.changes.len(), changes, "{from} to {to}");
         // Spans begin with the lag and the slope of the whole.
@@ -196,7 +196,7 @@ fn parts_have_the_reservations_of_their_time() {
     for (last, reservation) in [(4, 100), (5, 300)] {
         let seen = seen(&journal, &upto(last));
         let life = seen.lives.iter().find(|life| life.thread == 1).unwrap();
-        assert_eq!(life.reservation, reservation);
+        assert_eq!(at_the_end(life), reservation);
     }
     // What a part touches at its edge alone is no bound of it.
     for (window, bound) in [
