@@ -36,7 +36,7 @@ fn filled(name: &str) -> PathBuf {
 }
 
 /// Its files but the crate's sources.
-const FILES: [&str; 26] = [
+const FILES: [&str; 28] = [
     "KIT",
     "PROVED.md",
     "README",
@@ -47,11 +47,13 @@ const FILES: [&str; 26] = [
     "bin/mtrrun",
     "bin/mtrwhy",
     "examples/host/c/controller.c",
+    "examples/host/c/host.h",
     "examples/host/c/lab.h",
     "examples/host/rust/Cargo.toml",
     "examples/host/rust/src/host.rs",
     "examples/host/rust/src/lab.rs",
     "examples/host/rust/src/main.rs",
+    "examples/host/rust/src/tasks.rs",
     "examples/host/rust/src/world.rs",
     "examples/priorities/site.txt",
     "include/mtr.h",
@@ -256,10 +258,10 @@ target_link_libraries(prog mtr::mtr)
             run(configure.current_dir(above))
         };
         // A later version, another major one; then this.
-        for wanted in ["2.99", "3.0", "1.1"] {
+        for wanted in ["3.99", "4.0", "2.4"] {
             assert!(!configured(wanted).status.success(), "{wanted}");
         }
-        for wanted in ["2.0", version.trim()] {
+        for wanted in ["3.0", version.trim()] {
             let output = configured(wanted);
             assert!(output.status.success(), "{}", said(&output));
         }
