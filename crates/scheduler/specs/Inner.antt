@@ -1,5 +1,5 @@
 -- What private functions require and return, each over just what is handed to it. Nothing of the rule rests on it.
-use Prim.Native.Nat.{ℕ, _*_, _≤_, _<_}
+use Prim.Native.Nat.{ℕ, _+_, _*_, _≤_, _<_}
 use mathlib.Core.Path.{_≡_}
 use mathlib.Core.List.{List}
 use mathlib.Core.Bool.{Bool, true, false, not, cond, _&&_, _||_}
@@ -9,6 +9,7 @@ use Rattle.base.specs.Lists.{member, distinct, everyOf, everyBelow, sumBelow}
 use Rattle.scheduler.specs.declared.Thread.{Thread}
 use Rattle.scheduler.specs.declared.Group.{Group}
 use Rattle.scheduler.specs.declared.Scheduler.{Scheduler}
+use Rattle.scheduler.specs.declared.effort.Efforts.{Efforts}
 use Rattle.quota.specs.Quota.{natOf}
 use Rattle.fair.specs.Tags.{tagUnit, choose, tagOk}
 use Rattle.scheduler.specs.State.{noThread, isRunnable, hasReservation, isEffort, groupOf, weightOf, limitOf, reservedAt, runnableAt}
@@ -69,6 +70,18 @@ pub record Reportable (m used : ℕ) (t : Thread) : Type 0 where
 abbrev pub leftOver : Scheduler → ℕ → ℕ → Thread → Thread
 leftOver s reason used t =
     cond (eqb reason 3) noThread (cond (hasReservation t) (chargedThread s reason used t) (spentThread s reason used t))
+
+-- a search among the best-effort threads: before the first, and after one more
+abbrev pub noEfforts : Efforts
+noEfforts = record { best = 64; least = 0; count = 0 }
+
+unfoldable pub effortsWith : Thread → ℕ → Efforts → Efforts
+effortsWith t n e =
+    cond (isEffort t)
+    (cond (isRunnable t && (eqb (e .best) 64 || ltb (t .tag) (e .least)))
+    (record { best = n; least = t .tag; count = e .count + 1 })
+    (record { best = e .best; least = e .least; count = e .count + 1 }))
+    e
 
 -- of a table of threads, the runnable best-effort one that goes first, or 64, and how many best-effort ones there are
 abbrev pub bestOf : List Thread → ℕ

@@ -12,7 +12,7 @@ ghost use Rattle.scheduler.specs.Sound.{sound};
 ghost use Rattle.scheduler.specs.Refusals.{admitEffort};
 ghost use Rattle.scheduler.specs.Effects.{effortThread, spentThread};
 ghost use Rattle.scheduler.specs.Answers.{answeredTo};
-ghost use Rattle.scheduler.specs.Inner.{Accounted, Spendable, bestOf, effortsOf};
+ghost use Rattle.scheduler.specs.Inner.{Accounted, Spendable, noEfforts, effortsWith};
 use crate::Answered;
 use crate::Scheduler;
 use crate::Thread;
@@ -21,10 +21,11 @@ use crate::threads;
 
 const THREADS: usize = Scheduler::THREADS as usize;
 
-// The runnable best-effort thread that goes first, or 64, and how many best-effort threads there are.
-struct Efforts {
-    best: u32,
-    count: u32,
+// Of the threads looked at: the runnable best-effort one that goes first, or 64, its tag, and how many best-effort threads there are.
+pub(crate) struct Efforts {
+    pub(crate) best: u32,
+    pub(crate) least: u64,
+    pub(crate) count: u32,
 }
 
 // The thread that a dispatch takes, or 64, and the number of threads that it answers.
@@ -115,53 +116,62 @@ impl Thread {
     }
 }
 
-// The choice among the best-effort threads.
-fn efforts_of(threads: [Thread; 64]) -> Efforts
-    ensures { λ r. ⌜ (r .best ≡ bestOf threads) × (r .count ≡ effortsOf threads) × (r .count ≤ 64) ⌝ }
+// Where the search among the best-effort threads begins: at its end where a thread of the list is found.
+pub(crate) fn search_from(listed: u32) -> usize
+    ensures { λ r. ⌜ r ≡ cond (eqb listed 64) 0 64 ⌝ }
 {
-    let mut best = Scheduler::THREADS;
-    let mut least: u64 = 0;
-    let mut count: u32 = 0;
-    let mut i: usize = 0;
-    while i < THREADS {
-        let t = threads[i];
-        if !t.is_effort() {
-            i += 1;
-            continue;
-        }
-        count += 1;
-        if !fair::comes_first(t.status == Thread::RUNNABLE, t.tag, best, least) {
-            i += 1;
-            continue;
-        }
-        best = i as u32;
-        least = t.tag;
-        i += 1;
+    if listed == Scheduler::THREADS {
+        return 0;
     }
-    Efforts {
-        best: best,
-        count: count,
-    }
+    THREADS
 }
 
-// What a dispatch takes that has passed over this many threads of the list up to the first runnable one, or 64. The best-effort threads are
-// looked at only where it is 64.
-pub(crate) fn choice_of(threads: [Thread; 64], listed: u32, passed: u32) -> Choice
-    requires { ⌜ passed ≤ 64 ⌝ }
-    ensures { λ r. ⌜ (r .number ≡ firstOr listed (bestOf threads)) × (r .before ≡ counted (firstOr listed (bestOf threads)) passed (effortsOf threads)) ⌝ }
-{
-    if listed != Scheduler::THREADS {
-        return Choice {
-            number: listed,
-            before: passed,
-        };
+impl Efforts {
+    // Before the first thread.
+    pub(crate) fn none() -> Self
+        ensures { λ r. ⌜ r ≡ noEfforts ⌝ }
+    {
+        Self {
+            best: Scheduler::THREADS,
+            least: 0,
+            count: 0,
+        }
     }
-    let efforts = efforts_of(threads);
-    let number = fair::first_or(listed, efforts.best);
-    let before = fair::counted(number, passed, efforts.count) as u32;
-    Choice {
-        number: number,
-        before: before,
+
+    // After one thread more, of this number.
+    pub(crate) fn with(self, t: Thread, number: u32) -> Self
+        requires { ⌜ self .count ≤ 64 ⌝ }
+        ensures { λ r. ⌜ r ≡ effortsWith t number self ⌝ }
+    {
+        if !t.is_effort() {
+            return self;
+        }
+        let count = self.count + 1;
+        if fair::comes_first(t.status == Thread::RUNNABLE, t.tag, self.best, self.least) {
+            return Self {
+                best: number,
+                least: t.tag,
+                count: count,
+            };
+        }
+        Self {
+            best: self.best,
+            least: self.least,
+            count: count,
+        }
+    }
+
+    // What a dispatch takes that has passed over this many threads of the list up to the first runnable one, or 64.
+    pub(crate) fn choice(self, listed: u32, passed: u32) -> Choice
+        requires { ⌜ (passed ≤ 64) × (self .count ≤ 64) ⌝ }
+        ensures { λ r. ⌜ (r .number ≡ firstOr listed (self .best)) × (r .before ≡ counted (firstOr listed (self .best)) passed (self .count)) ⌝ }
+    {
+        let number = fair::first_or(listed, self.best);
+        let before = fair::counted(number, passed, self.count) as u32;
+        Choice {
+            number: number,
+            before: before,
+        }
     }
 }
 

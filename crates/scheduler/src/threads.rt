@@ -22,6 +22,7 @@ use crate::Scheduler;
 use crate::Settings;
 use crate::Thread;
 use crate::effort;
+use crate::effort::Efforts;
 use crate::refusal;
 
 // The reasons of a report.
@@ -409,15 +410,13 @@ impl Scheduler {
         let running = self.running;
         let code = refusal::dispatch_code(ok, running, self.meter);
         let count = searched(code, self.count);
-        let mut stop = count;
         let mut before: u32 = 0;
-        while before < stop {
+        while before < count {
             let number = self.order[before as usize];
             let thread = self.threads[number as usize];
             let status = thread.status;
             if status == Thread::RUNNABLE {
-                stop = before;
-                continue;
+                break;
             }
             before += 1;
         }
@@ -425,8 +424,14 @@ impl Scheduler {
         let place = (before % Self::THREADS) as usize;
         let first = self.order[place] as u32 % Self::THREADS;
         let listed = running_after(found, first, Self::THREADS);
-        let threads = self.threads;
-        let taken = effort::choice_of(threads, listed, before);
+        let mut efforts = Efforts::none();
+        let mut i = effort::search_from(listed);
+        while i < Self::THREADS as usize {
+            let t = self.threads[i];
+            efforts = efforts.with(t, i as u32);
+            i += 1;
+        }
+        let taken = efforts.choice(listed, before);
         let number = taken.number;
         let thread = self.threads[(number % Self::THREADS) as usize];
         let slice = thread.slice(self.settings.interval);
