@@ -185,13 +185,11 @@ fn last(r: &mut Rng, s: &mut Scheduler) {
     }
 }
 
+/// Sets one number of a best-effort thread, or one that has to do with it.
 fn retag(r: &mut Rng, s: &mut Scheduler) {
     let others = those(s, Thread::is_best_effort);
     let reserved = those(s, Thread::is_reserved);
-    // There may be none after the first change.
-    let n = *others
-        .get(r.below(others.len() as u64) as usize)
-        .unwrap_or(&0);
+    let n = r.pick(&others);
     let (time, most) = (s.time, TAG_UNIT.wrapping_mul(s.meter));
     let t = s.threads[n];
     let longest = s.settings.interval as u64 + s.settings.overrun as u64;
