@@ -4,7 +4,6 @@ use crate::Share;
 use rounding::nearest;
 use scheduler::Scheduler;
 use scheduler::Thread;
-use scheduler::refusal;
 ghost use mathlib.Core.Path.{_≡_};
 ghost use Rattle.scheduler.specs.Accounts.{lagOf, shareOf, allotmentOf};
 ghost use Rattle.accounts.specs.Figures.{lagAt, shareAt};
@@ -58,15 +57,15 @@ fn find(s: Scheduler, number: u64) -> Account
     ensures { λ r. ⌜ r ≡ accountOf s number ⌝ }
 {
     if !s.sound() {
-        return Account::Refused(refusal::UNSOUND);
+        return Account::Refused(refusals::UNSOUND);
     }
     if 63 < number {
-        return Account::Refused(refusal::NO_THREAD);
+        return Account::Refused(refusals::NO_THREAD);
     }
     let n = number as usize;
     let t = s.threads[n];
     if t.status == 0 {
-        return Account::Refused(refusal::NO_THREAD);
+        return Account::Refused(refusals::NO_THREAD);
     }
     Account::Found(t)
 }

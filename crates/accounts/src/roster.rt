@@ -5,7 +5,6 @@ use crate::figures::share_of;
 use crate::sort::Keys;
 use crate::sort::order;
 use scheduler::Scheduler;
-use scheduler::refusal;
 ghost use mathlib.Core.Path.{_≡_};
 ghost use lib.ListN.{length};
 ghost use Rattle.accounts.specs.Roster.{threadState, rosterRefusal, tableOf};
@@ -87,7 +86,7 @@ fn planned(s: Scheduler, len: usize) -> Plan
     ensures { λ r. ⌜ Planned s len r ⌝ }
 {
     if !s.sound() {
-        return refused(refusal::UNSOUND);
+        return refused(refusals::UNSOUND);
     }
     let k = order(s);
     if len < k.count {

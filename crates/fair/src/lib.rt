@@ -2,7 +2,7 @@
 // the unit of tags is a multiple of every weight.
 ghost use Prim.Native.Nat.{_-_, min};
 ghost use mathlib.Core.Path.{_≡_};
-ghost use mathlib.Core.Bool.{cond, not, _&&_, _||_};
+ghost use mathlib.Core.Bool.{not, _&&_, _||_};
 ghost use lib.Dec.{ltb, eqb};
 ghost use Rattle.base.specs.Checks.{within};
 ghost use Rattle.fair.specs.Tags.{cost, finishTag, startTag, firstOr, counted, timeAfter, tagOk};

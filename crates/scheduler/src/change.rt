@@ -1,11 +1,8 @@
 // Change: another reservation for a reserved thread that does not run. It keeps its place and its status; its allotment is cut to the new quantum
 // and never raised, and its anchor is set.
 ghost use mathlib.Core.Path.{_≡_};
-ghost use mathlib.Core.Bool.{true, not, cond, _||_};
-ghost use mathlib.Core.List.{[], _∷_};
+ghost use mathlib.Core.Bool.{true, not, cond};
 ghost use Prim.Native.Nat.{_≤_};
-ghost use lib.Dec.{ltb, eqb};
-ghost use Rattle.base.specs.Checks.{within, _⇒_, firstOf};
 ghost use Rattle.scheduler.specs.Refusals.{change};
 ghost use Rattle.scheduler.specs.Effects.{changedThread};
 ghost use Rattle.scheduler.specs.Answers.{answeredTo};
@@ -13,37 +10,7 @@ use crate::Answered;
 use crate::Scheduler;
 use crate::Thread;
 use crate::groups;
-use crate::refusal;
 use crate::threads;
-
-// The number that a change of a thread is refused with, or 0. `reserved` says whether it is a reserved one; `room` is what its group has
-// free, its old reservation counted as free.
-fn change_code(ok: bool, number: u64, reserved: bool, running: u32, reservation: u64, room: u64) -> u32
-    ensures { λ r. ⌜ r ≡ firstOf ((not ok ⇒ 16) ∷ (ltb 63 number || not reserved ⇒ 7) ∷ (eqb running number ⇒ 9)
-        ∷ (not (within 1 1000 reservation) ⇒ 4) ∷ (ltb room reservation ⇒ 5) ∷ []) ⌝ }
-{
-    let runs = running as u64 == number;
-    let outside = groups::outside(reservation);
-    if !ok {
-        return refusal::UNSOUND;
-    }
-    if Scheduler::THREADS as u64 <= number {
-        return refusal::NO_THREAD;
-    }
-    if !reserved {
-        return refusal::NO_THREAD;
-    }
-    if runs {
-        return refusal::THREAD_RUNNING;
-    }
-    if outside {
-        return refusal::AMOUNT;
-    }
-    if room < reservation {
-        return refusal::NO_ROOM;
-    }
-    0
-}
 
 impl Thread {
     // The thread after a call to change its reservation.
@@ -80,7 +47,14 @@ impl Scheduler {
         let free = groups::free_in(groups, group, used);
         let own = old.reservation as u64;
         let room = free + own;
-        let code = change_code(test.ok, number, old.is_reserved(), self.running, reservation, room);
+        let code = refusals::change_code(
+            test.ok,
+            number,
+            old.is_reserved(),
+            self.running,
+            reservation,
+            room,
+        );
         let thread = old.changed_if(code == 0, self.meter, self.settings.thousandth, reservation);
         self.threads[at] = thread;
         Answered {

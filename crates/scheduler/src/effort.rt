@@ -1,11 +1,9 @@
 // Best-effort threads: the call that admits one, the choice among them, and one after a report. An entry's reservation tells the two kinds
 // apart: of a best-effort thread it is 0. Tags and the order among them are crate `fair`'s.
 ghost use mathlib.Core.Path.{_≡_};
-ghost use mathlib.Core.Bool.{true, not, cond, _&&_};
-ghost use mathlib.Core.List.{[], _∷_};
+ghost use mathlib.Core.Bool.{true, not, cond};
 ghost use Prim.Native.Nat.{_+_, _≤_};
-ghost use lib.Dec.{ltb, eqb};
-ghost use Rattle.base.specs.Checks.{within, _⇒_, firstOf};
+ghost use lib.Dec.{eqb};
 ghost use Rattle.fair.specs.Tags.{firstOr, counted, timeAfter};
 ghost use Rattle.scheduler.specs.State.{hasReservation, isReserved, isEffort};
 ghost use Rattle.scheduler.specs.Sound.{sound};
@@ -16,7 +14,6 @@ ghost use Rattle.scheduler.specs.Inner.{Accounted, Spendable, noEfforts,
 use crate::Answered;
 use crate::Scheduler;
 use crate::Thread;
-use crate::refusal;
 use crate::threads;
 
 const THREADS: usize = Scheduler::THREADS as usize;
@@ -32,25 +29,6 @@ pub(crate) struct Efforts {
 pub(crate) struct Choice {
     pub(crate) number: u32,
     pub(crate) before: u32,
-}
-
-// The number that admission of a best-effort thread is refused with, or 0. A number above 63 is refused whatever the status.
-fn effort_code(ok: bool, number: u64, status: u8, weight: u64) -> u32
-    ensures { λ r. ⌜ r ≡ firstOf ((not ok ⇒ 16) ∷ (ltb 63 number ⇒ 7) ∷ (ltb 0 status ⇒ 8) ∷ (not (within 1 16 weight) ⇒ 4) ∷ []) ⌝ }
-{
-    if !ok {
-        return refusal::UNSOUND;
-    }
-    if Scheduler::THREADS as u64 <= number {
-        return refusal::NO_THREAD;
-    }
-    if 0 < status {
-        return refusal::ALREADY_ADMITTED;
-    }
-    if fair::outside(weight) {
-        return refusal::AMOUNT;
-    }
-    0
 }
 
 impl Thread {
@@ -190,7 +168,7 @@ impl Scheduler {
     {
         let at = (number % Self::THREADS as u64) as usize;
         let old = self.threads[at];
-        let code = effort_code(ok, number, old.status, weight);
+        let code = refusals::effort_code(ok, number, old.status, weight);
         let thread = old.effort_if(code == 0, self.meter, self.time, weight);
         self.threads[at] = thread;
         Answered {

@@ -3,11 +3,9 @@
 // stores on every path, the old values if it is refused: with a store on one path only, the compiled call copies the state once more.
 // `open` and `close` read the old group from the copy of the groups: the compiler drops a store of what was read from the same place.
 ghost use mathlib.Core.Path.{_≡_};
-ghost use mathlib.Core.Bool.{true, not, cond, _&&_};
-ghost use mathlib.Core.List.{[], _∷_};
+ghost use mathlib.Core.Bool.{true, cond, _&&_};
 ghost use Prim.Native.Nat.{_+_, _≤_, _<_};
-ghost use lib.Dec.{ltb, eqb};
-ghost use Rattle.base.specs.Checks.{within, _⇒_, firstOf};
+ghost use lib.Dec.{eqb};
 ghost use Rattle.scheduler.specs.State.{noGroup, isOpen, openAt, threadAt};
 ghost use Rattle.scheduler.specs.Sound.{ceilingsIn, load, sound};
 ghost use Rattle.scheduler.specs.Refusals.{free, refusal, openGroup, closeGroup, admit};
@@ -19,7 +17,6 @@ use crate::Answered;
 use crate::Group;
 use crate::Scheduler;
 use crate::Thread;
-use crate::refusal;
 use crate::threads;
 
 const GROUPS: u64 = Scheduler::GROUPS as u64;
@@ -175,26 +172,6 @@ pub(crate) fn free_in(groups: [Group; 16], group: u64, used: u64) -> u64
     ceiling - used
 }
 
-// Whether a ceiling or a reservation is outside its range.
-pub(crate) fn outside(amount: u64) -> bool
-    ensures { λ r. ⌜ r ≡ not (within 1 1000 amount) ⌝ }
-{
-    (amount < Scheduler::AMOUNT_LEAST as u64) | ((Scheduler::WHOLE as u64) < amount)
-}
-
-// The number that an amount is refused with, or 0.
-fn amount_code(amount: u64, room: u64) -> u32
-    ensures { λ r. ⌜ r ≡ firstOf ((not (within 1 1000 amount) ⇒ 4) ∷ (ltb room amount ⇒ 5) ∷ []) ⌝ }
-{
-    if outside(amount) {
-        return refusal::AMOUNT;
-    }
-    if room < amount {
-        return refusal::NO_ROOM;
-    }
-    0
-}
-
 // The number that opening a group is refused with, or 0.
 fn open_code(
     ok: bool,
@@ -208,21 +185,21 @@ fn open_code(
         ≡ refusal (openGroup number parent ceiling) s) ⌝ }
 {
     if !ok {
-        return refusal::UNSOUND;
+        return refusals::UNSOUND;
     }
     if !is_open(groups, parent) {
-        return refusal::NO_GROUP;
+        return refusals::NO_GROUP;
     }
     if GROUPS <= number {
-        return refusal::GROUP_NUMBER;
+        return refusals::GROUP_NUMBER;
     }
     if is_open(groups, number) {
-        return refusal::GROUP_NUMBER;
+        return refusals::GROUP_NUMBER;
     }
     if number <= parent {
-        return refusal::GROUP_NUMBER;
+        return refusals::GROUP_NUMBER;
     }
-    amount_code(ceiling, free_in(groups, parent, used))
+    refusals::amount_code(ceiling, free_in(groups, parent, used))
 }
 
 // The number that closing a group is refused with, or 0. Each thread reserves and each child group takes at least 1.
@@ -230,16 +207,16 @@ fn close_code(ok: bool, groups: [Group; 16], used: u64, number: u64) -> u32
     ensures { λ r. ⌜ ((s : Scheduler) → ok ≡ sound s → s .groups ≡ groups → (ok ≡ true → number < 16 → used ≡ load s number) → r ≡ refusal (closeGroup number) s) ⌝ }
 {
     if !ok {
-        return refusal::UNSOUND;
+        return refusals::UNSOUND;
     }
     if number == 0 {
-        return refusal::NO_GROUP;
+        return refusals::NO_GROUP;
     }
     if !is_open(groups, number) {
-        return refusal::NO_GROUP;
+        return refusals::NO_GROUP;
     }
     if used != 0 {
-        return refusal::GROUP_IN_USE;
+        return refusals::GROUP_IN_USE;
     }
     0
 }
@@ -258,18 +235,18 @@ fn admit_code(
         → (number < 64 → status ≡ (threadAt s number) .status) → r ≡ refusal (admit number group reservation) s) ⌝ }
 {
     if !ok {
-        return refusal::UNSOUND;
+        return refusals::UNSOUND;
     }
     if Scheduler::THREADS as u64 <= number {
-        return refusal::NO_THREAD;
+        return refusals::NO_THREAD;
     }
     if 0 < status {
-        return refusal::ALREADY_ADMITTED;
+        return refusals::ALREADY_ADMITTED;
     }
     if !is_open(groups, group) {
-        return refusal::NO_GROUP;
+        return refusals::NO_GROUP;
     }
-    amount_code(reservation, free_in(groups, group, used))
+    refusals::amount_code(reservation, free_in(groups, group, used))
 }
 
 // The reservations in a group and in every group below it. Each call goes to a child group, which has a higher number.
@@ -377,11 +354,11 @@ impl Scheduler {
     {
         let test = self.tested();
         if !test.ok {
-            return Total::Refused(refusal::UNSOUND);
+            return Total::Refused(refusals::UNSOUND);
         }
         let groups = self.groups;
         if !is_open(groups, group) {
-            return Total::Refused(refusal::NO_GROUP);
+            return Total::Refused(refusals::NO_GROUP);
         }
         let reserved = test.used;
         Total::Thousandths(subtree(groups, reserved, group))

@@ -6,7 +6,6 @@ pub mod batch;
 pub mod change;
 pub mod effort;
 pub mod groups;
-pub mod refusal;
 pub mod sound;
 pub mod threads;
 

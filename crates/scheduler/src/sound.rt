@@ -107,15 +107,7 @@ fn unlisted_ok(t: Thread, limit: u32, meter: u64, time: u64, most: u64, running:
     }
     let paid = account_ok(t, meter);
     let ready = status == 1;
-    let tagged = fair::tag_ok(
-        limit,
-        time,
-        most,
-        t.group_or_weight,
-        ready,
-        running,
-        t.tag,
-    );
+    let tagged = fair::tag_ok(limit, time, most, t.group_or_weight, ready, running, t.tag);
     (status <= 2) & (t.reservation == 0) & (paid & tagged)
 }
 

@@ -23,7 +23,6 @@ use crate::Settings;
 use crate::Thread;
 use crate::effort;
 use crate::effort::Efforts;
-use crate::refusal;
 
 // The reasons of a report.
 pub const TICK: u64 = 0;
@@ -306,7 +305,7 @@ impl Scheduler {
     pub fn start(thousandth: u64, interval: u64, overrun: u64) -> Answered
         ensures { λ r. ⌜ r ≡ startAnswered thousandth interval overrun ⌝ }
     {
-        let code = refusal::start_code(thousandth, interval, overrun);
+        let code = refusals::start_code(thousandth, interval, overrun);
         let mut answer = Answer::Refused(code);
         let mut state = Self::unstarted();
         if code == 0 {
@@ -372,7 +371,7 @@ impl Scheduler {
     {
         let at = (number % Self::THREADS as u64) as usize;
         let thread = self.threads[at];
-        let code = refusal::remove_code(ok, number, thread.status, self.running);
+        let code = refusals::remove_code(ok, number, thread.status, self.running);
         let accepted = code == 0;
         let count = self.count;
         let list = self.order;
@@ -394,7 +393,7 @@ impl Scheduler {
     {
         let at = (number % Self::THREADS as u64) as usize;
         let thread = self.threads[at];
-        let code = refusal::wake_code(ok, number, thread.status);
+        let code = refusals::wake_code(ok, number, thread.status);
         let woken = thread.woken(code == 0, self.meter, self.time);
         self.threads[at] = woken;
         Answered {
@@ -408,7 +407,7 @@ impl Scheduler {
         ensures { λ r. ⌜ r ≡ answeredTo dispatch self ⌝ }
     {
         let running = self.running;
-        let code = refusal::dispatch_code(ok, running, self.meter);
+        let code = refusals::dispatch_code(ok, running, self.meter);
         let count = searched(code, self.count);
         let mut before: u32 = 0;
         while before < count {
@@ -452,7 +451,7 @@ impl Scheduler {
         let at = (running % Self::THREADS) as usize;
         let thread = self.threads[at];
         let slice = thread.slice(self.settings.interval);
-        let code = refusal::report_code(ok, running, reason, slice, self.settings.overrun, used);
+        let code = refusals::report_code(ok, running, reason, slice, self.settings.overrun, used);
         let charges = code == 0;
         let count = self.count;
         let length = count as usize;

@@ -3,6 +3,7 @@ use Prim.Native.Nat.{ℕ}
 use mathlib.Core.Path.{_≡_, sym, _∙_}
 use native.Mathlib.Omega.{arith}
 use borrow.Author.Needs.{needs}
+use Rattle.scheduler.specs.Sound.{settingsOk}
 use Rattle.scheduler.specs.Refusals.{startRefusal}
 use Rattle.scheduler.proofs.threads.Started.{start-bounds, start-done, start-refused}
 use Rattle.scheduler.proofs.Scheduler.start.Statement.{statement}
@@ -23,6 +24,7 @@ module _ (c : tie.Then1) where
   O = coded .before .args .overrun
 
   clear : startRefusal M P O ≡ 0
+  unfolding startRefusal settingsOk
   clear = sym (coded .start-code .ensures) ∙ c .if1 .taken
 
 start-code-requires : tie.Need-start-code-requires
@@ -50,6 +52,7 @@ returns : tie.Need-returns
 returns c = start-done (M c) (P c) (O c) (c .before .unstarted .result) (c .before .unstarted .ensures) (clear c)
 
 returns-2 : tie.Need-returns-2
+unfolding startRefusal settingsOk
 returns-2 c =
     let zeros = c .before in
     let coded = zeros .before in

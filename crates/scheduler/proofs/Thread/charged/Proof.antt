@@ -23,7 +23,7 @@ returns c = λ s e f.
       c .accounted .ensures s e,
       b .remaining .ensures s f,
       toZ-ofZ (charge-fits s (a .reason) (a .used) (a .self)
-      (subst (λ (m : ℕ). Chargeable m (a .used) (a .self)) (sym f) (b .before .pre .1))),
+          (subst (λ (m : ℕ). Chargeable m (a .used) (a .self)) (sym f) (b .before .pre .1))),
     )
 
 pub charged-spec : {M : Type 1} → statement M

@@ -4,15 +4,12 @@ use native.Mathlib.Omega.{arith}
 use borrow.Author.Needs.{needs}
 use borrow.Author.Tests.{lt-ltb, le-ltb, not-true, not-false}
 use Rattle.base.specs.Checks.{firstOf}
-use Rattle.scheduler.proofs.effort.effort_code.Statement.{statement}
-use Rattle.scheduler.proofs.effort.effort_code.Tie as tie
+use Rattle.refusals.proofs.effort_code.Statement.{statement}
+use Rattle.refusals.proofs.effort_code.Tie as tie
 
 returns : tie.Need-returns
 unfolding firstOf
 returns c = simp (not-true (c .before .args .ok) (c .if1 .taken))
-
-cast-if2 : tie.Need-cast-if2
-cast-if2 c = search needs
 
 returns-2 : tie.Need-returns-2
 unfolding firstOf
@@ -40,7 +37,7 @@ returns-4 c =
       le-ltb 63 (a .number) (omega (arith, e .before .if2 .left)),
       le-ltb 0 (a .status) (e .if3 .left),
       sym (o .outside .ensures) ∙ c .if4 .taken,
-    )
+)
 
 returns-5 : tie.Need-returns-5
 unfolding firstOf
@@ -53,8 +50,8 @@ returns-5 c =
       le-ltb 63 (a .number) (omega (arith, e .before .if2 .left)),
       le-ltb 0 (a .status) (e .if3 .left),
       sym (o .outside .ensures) ∙ c .if4 .left,
-    )
+)
 
 pub effort-code-spec : {M : Type 1} → statement M
 effort-code-spec =
-    tie.close (tie.spec returns cast-if2 returns-2 returns-3 outside-requires returns-4 returns-5)
+    tie.close (tie.spec returns returns-2 returns-3 outside-requires returns-4 returns-5)

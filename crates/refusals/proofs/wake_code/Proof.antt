@@ -3,15 +3,12 @@ use borrow.Author.Needs.{needs}
 use borrow.Author.Tests.{lt-ltb, le-ltb, ne-eqb, not-true, not-false}
 use native.Mathlib.Omega.{arith}
 use Rattle.base.specs.Checks.{firstOf}
-use Rattle.scheduler.proofs.refusal.wake_code.Statement.{statement}
-use Rattle.scheduler.proofs.refusal.wake_code.Tie as tie
+use Rattle.refusals.proofs.wake_code.Statement.{statement}
+use Rattle.refusals.proofs.wake_code.Tie as tie
 
 returns : tie.Need-returns
 unfolding firstOf
 returns c = simp (not-true (c .before .args .ok) (c .if1 .taken))
-
-cast-if2 : tie.Need-cast-if2
-cast-if2 c = search needs
 
 returns-2 : tie.Need-returns-2
 unfolding firstOf
@@ -25,7 +22,7 @@ returns-3 c =
       not-false (c .before .before .before .args .ok) (c .before .before .if1 .left),
       le-ltb 63 (c .before .before .before .args .number) (omega arith),
       c .if3 .taken,
-    )
+)
 
 returns-4 : tie.Need-returns-4
 unfolding firstOf
@@ -36,7 +33,7 @@ returns-4 c =
       le-ltb 63 (a .number) (omega arith),
       lt-ltb 0 (a .status) (omega (arith, c .before .if3 .left)),
       ne-eqb (a .status) 2 (λ e. omega (arith, c .if4 .taken)),
-    )
+)
 
 returns-5 : tie.Need-returns-5
 unfolding firstOf
@@ -45,4 +42,4 @@ returns-5 c =
     simp (not-false (a .ok) (c .before .before .before .if1 .left), le-ltb 63 (a .number) (omega arith), c .if4 .left)
 
 pub wake-code-spec : {M : Type 1} → statement M
-wake-code-spec = tie.close (tie.spec returns cast-if2 returns-2 returns-3 returns-4 returns-5)
+wake-code-spec = tie.close (tie.spec returns returns-2 returns-3 returns-4 returns-5)

@@ -3,15 +3,12 @@ use borrow.Author.Needs.{needs}
 use borrow.Author.Tests.{lt-ltb, le-ltb, eq-eqb, ne-eqb, not-true, not-false}
 use native.Mathlib.Omega.{arith}
 use Rattle.base.specs.Checks.{firstOf}
-use Rattle.scheduler.proofs.refusal.remove_code.Statement.{statement}
-use Rattle.scheduler.proofs.refusal.remove_code.Tie as tie
+use Rattle.refusals.proofs.remove_code.Statement.{statement}
+use Rattle.refusals.proofs.remove_code.Tie as tie
 
 returns : tie.Need-returns
 unfolding firstOf
 returns c = simp (not-true (c .before .args .ok) (c .if1 .taken))
-
-cast-if2 : tie.Need-cast-if2
-cast-if2 c = search needs
 
 returns-2 : tie.Need-returns-2
 unfolding firstOf
@@ -34,7 +31,7 @@ returns-4 c =
       le-ltb 63 (a .number) (omega arith),
       lt-ltb 0 (a .status) (omega (arith, c .before .if3 .left)),
       eq-eqb (a .running) (a .number) (omega arith),
-    )
+)
 
 returns-5 : tie.Need-returns-5
 unfolding firstOf
@@ -45,7 +42,7 @@ returns-5 c =
       le-ltb 63 (a .number) (omega arith),
       lt-ltb 0 (a .status) (omega (arith, c .before .if3 .left)),
       ne-eqb (a .running) (a .number) (c .if4 .left),
-    )
+)
 
 pub remove-code-spec : {M : Type 1} → statement M
-remove-code-spec = tie.close (tie.spec returns cast-if2 returns-2 returns-3 returns-4 returns-5)
+remove-code-spec = tie.close (tie.spec returns returns-2 returns-3 returns-4 returns-5)
