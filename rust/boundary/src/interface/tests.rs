@@ -113,7 +113,7 @@ fn with(calls: &str) -> Result<Interface, Error> {
             "crates/fair/src/lib.rt" => {
                 "pub const TAG_UNIT: u64 = 7; pub const WEIGHT_LEAST: u8 = 2; pub const WEIGHT_MOST: u8 = 5;"
             }
-            "crates/scheduler/src/refusal.rt" => REFUSAL,
+            "crates/refusals/src/lib.rt" => REFUSAL,
             "crates/scheduler/src/batch.rt" => "pub const HALTED: u32 = 20;",
             "crates/accounts/src/roster.rt" => "pub const LENGTH: u32 = 17;",
             "crates/record/src/lib.rt" => RECORD,
