@@ -180,9 +180,9 @@ fn are_as_old_as_they_say() {
         }
     }
     assert!(starts[0] > 100 && starts[1] > 70, "{starts:?}");
-    for late in late {
+    for (late, least) in late.into_iter().zip([200, 80]) {
         assert!(late.all_reports(1) && late.all_starts(1), "{late:?}");
-        assert!(late.overruns() > 80, "{late:?}");
+        assert!(late.overruns() > least, "{late:?}");
     }
     println!("{kinds:?} {changes:?}");
     assert!(kinds.keys().copied().eq(1..=9) && kinds.values().all(|&n| n > 20));
