@@ -12,30 +12,30 @@ use Rattle.scheduler.specs.declared.Scheduler.{Scheduler}
 use Rattle.scheduler.specs.declared.effort.Efforts.{Efforts}
 use Rattle.quota.specs.Quota.{natOf}
 use Rattle.fair.specs.Tags.{tagUnit, choose, tagOk}
-use Rattle.scheduler.specs.State.{noThread, isRunnable, hasReservation, isEffort, groupOf, weightOf, limitOf, reservedAt, runnableAt}
-use Rattle.scheduler.specs.State.{openAt, listed, meterMost, chargeMost}
+use Rattle.scheduler.specs.State.{noThread, isAdmitted, isRunnable, hasReservation, isEffort, groupOf, weightOf, limitOf}
+use Rattle.scheduler.specs.State.{reservedAt, runnableAt, openAt, listed, meterMost, chargeMost}
 use Rattle.scheduler.specs.Sound.{quotaOk, accountOk, threadOk, reservedIn, sound}
 use Rattle.scheduler.specs.Effects.{chargedThread, spentThread}
 
 -- the state s with these parts in place of its own
-abbrev pub given : Scheduler → List Thread → List Group → ℕ → ℕ → ℕ → ℕ → Scheduler
-given s threads groups m meter time running = record {
+abbrev pub given : Scheduler → List Thread → List ℕ → List Group → ℕ → ℕ → ℕ → ℕ → ℕ → Scheduler
+given s threads order groups m meter time count running = record {
   threads = threads;
-  order = s .order;
+  order = order;
   groups = groups;
   meter = meter;
   time = time;
   settings = record { interval = s .settings .interval; thousandth = m; overrun = s .settings .overrun };
-  count = s .count;
+  count = count;
   running = running;
 }
 
 abbrev pub having : Scheduler → List Group → Scheduler
-having s groups = given s (s .threads) groups (s .settings .thousandth) (s .meter) (s .time) (s .running)
+having s groups = given s (s .threads) (s .order) groups (s .settings .thousandth) (s .meter) (s .time) (s .count) (s .running)
 
--- the numbers of a reserved thread: its reservation and allotment, its account, its group
-abbrev pub boundsOk : ℕ → ℕ → Thread → Bool
-boundsOk m meter t = quotaOk m t && (accountOk meter t && ltb (groupOf t) 16)
+-- a number in the list: a reserved thread's, whose reservation and allotment, account and group are in order
+abbrev pub listedOk : ℕ → ℕ → Thread → Bool
+listedOk m meter t = isAdmitted t && leb (t .status) 2 && (quotaOk m t && (accountOk meter t && ltb (groupOf t) 16))
 
 -- a number outside the list: free, or a best-effort thread's, whose account and tag are in order
 abbrev pub unlistedOk : ℕ → ℕ → ℕ → ℕ → Bool → Thread → Bool
@@ -95,15 +95,18 @@ effortsOf threads = sumBelow (λ n. cond (isEffort (getD threads n noThread)) 1 
 abbrev pub Marks : List Bool → List ℕ → Type 0
 Marks seen l = (n : ℕ) → n < 64 → getD seen n false ≡ member n l
 
--- the arguments of the pass over the threads are those of a state: the marks of its list, P + O, the most that a tag may be
-pub record Handed (s : Scheduler) (seen : List Bool) (limit meter most : ℕ) : Type 0 where
-  pub marks : Marks seen (listed s)
+-- what is handed to the pass over the threads is that of a state: P + O, the most that a tag may be
+pub record Handed (s : Scheduler) (limit meter most : ℕ) : Type 0 where
   pub limited : limitOf (s .settings) ≡ limit
   pub bounded : tagUnit * meter ≡ most
 
--- the pass over the list: whether it holds thread numbers, each once, and which
+-- the list's entries are thread numbers, each once
+abbrev pub entriesOk : List ℕ → Bool
+entriesOk l = everyOf (λ n. ltb n 64) l && distinct l
+
+-- the pass over the list, and which numbers it marks
 pub record ListSeen (l : List ℕ) (ok : Bool) (seen : List Bool) : Type 0 where
-  pub test : ok ≡ (everyOf (λ n. ltb n 64) l && distinct l)
+  pub test : ok ≡ entriesOk l
   pub marks : ok ≡ true → Marks seen l
 
 -- thread n passes its test, and stands in the list only if it is reserved
@@ -117,9 +120,13 @@ Sums s used = (g : ℕ) → g < 16 → getD used g 0 ≡ reservedIn s g
 abbrev pub Small : List ℕ → Type 0
 Small used = (g : ℕ) → g < 16 → getD used g 0 ≤ 64000
 
--- the pass over the threads: whether each passes and the running one is runnable, and the reservations in each group
+-- each thread passes, and the running one is runnable
+abbrev pub threadsOk : Scheduler → Bool
+threadsOk s = everyBelow (entryOk s) 64 && (eqb (s .running) 64 || runnableAt s (s .running))
+
+-- the pass over the list and the threads, with the reservations in each group
 pub record ThreadsPass (s : Scheduler) (ok : Bool) (used : List ℕ) : Type 0 where
-  pub test : ok ≡ (everyBelow (entryOk s) 64 && (eqb (s .running) 64 || runnableAt s (s .running)))
+  pub test : ok ≡ (entriesOk (listed s) && threadsOk s)
   pub sums : ok ≡ true → Sums s used
   pub small : ok ≡ true → Small used
 

@@ -10,7 +10,7 @@ ghost use Rattle.scheduler.specs.declared.Scheduler.{Scheduler};
 ghost use Rattle.quota.specs.Quota.{natOf};
 ghost use Rattle.scheduler.specs.State.{meterLimit, meterMost};
 ghost use Rattle.scheduler.specs.Sound.{settingsOk, accountOk, groupsOk, sound};
-ghost use Rattle.scheduler.specs.Inner.{given, having, boundsOk, unlistedOk, Handed, ListSeen, Sums, Small, ThreadsPass, Tested};
+ghost use Rattle.scheduler.specs.Inner.{given, having, listedOk, unlistedOk, Handed, ListSeen, Sums, Small, ThreadsPass, Tested};
 use crate::Group;
 use crate::Scheduler;
 use crate::Settings;
@@ -83,11 +83,18 @@ fn account_ok(t: Thread, meter: u64) -> bool
     (t.ticks <= meter - admission) & (t.since <= meter - anchor)
 }
 
-// The numbers of a reserved thread.
-fn bounds_ok(t: Thread, m: u32, meter: u64) -> bool
+// A number that stands in the list is that of a reserved thread.
+fn listed_ok(t: Thread, m: u32, meter: u64) -> bool
     requires { ⌜ m ≤ 1000 ⌝ }
-    ensures { λ r. ⌜ r ≡ boundsOk m meter t ⌝ }
+    ensures { λ r. ⌜ r ≡ listedOk m meter t ⌝ }
 {
+    let status = t.status;
+    if status == 0 {
+        return false;
+    }
+    if 2 < status {
+        return false;
+    }
     let reservation = t.reservation as u32;
     if !quota_ok(reservation, t.allotment, m) {
         return false;
@@ -142,7 +149,7 @@ fn list_seen(order: [u8; 64], count: u32) -> Seen
     }
 }
 
-// A thread is not in order.
+// Something is not in order.
 fn failed() -> Pass
     ensures { λ r. ⌜ r .ok ≡ false ⌝ }
 {
@@ -159,27 +166,33 @@ fn passed(used: [u32; 16], ok: bool) -> Pass
     Pass { ok: ok, used: used }
 }
 
-// A reserved thread stands in the list, and nothing else does. `limit` is P + O, `most` the most that a tag may be.
+// A reserved thread stands in the list, and nothing else does. `limit` is P + O, `most` the most that a tag may be. The list is passed over
+// here, so that the threads are copied before it.
 fn threads_pass(
     threads: [Thread; 64],
+    order: [u8; 64],
     groups: [Group; 16],
-    seen: [bool; 64],
     m: u32,
     limit: u32,
     meter: u64,
     time: u64,
     most: u64,
+    count: u32,
     running: u32,
 ) -> Pass
-    requires { ⌜ (m ≤ 1000) × (running ≤ 64) ⌝ }
-    ensures { λ r. ⌜ ((s : Scheduler) → Handed s seen limit meter most
-        → ThreadsPass (given s threads groups m meter time running) (r .ok) (r .used)) ⌝ }
+    requires { ⌜ (m ≤ 1000) × (count ≤ 64) × (running ≤ 64) ⌝ }
+    ensures { λ r. ⌜ ((s : Scheduler) → Handed s limit meter most
+        → ThreadsPass (given s threads order groups m meter time count running) (r .ok) (r .used)) ⌝ }
 {
+    let list = list_seen(order, count);
+    if !list.ok {
+        return failed();
+    }
+    let seen = list.seen;
     let mut used = [0u32; 16];
     let mut i: usize = 0;
     while i < THREADS {
         let t = threads[i];
-        let status = t.status;
         if !seen[i] {
             let runs = running as usize == i;
             if !unlisted_ok(t, limit, meter, time, most, runs) {
@@ -188,13 +201,7 @@ fn threads_pass(
             i += 1;
             continue;
         }
-        if status == 0 {
-            return failed();
-        }
-        if 2 < status {
-            return failed();
-        }
-        if !bounds_ok(t, m, meter) {
+        if !listed_ok(t, m, meter) {
             return failed();
         }
         let g = t.group_or_weight as usize;
@@ -273,22 +280,18 @@ impl Scheduler {
         }
         let limit = settings.interval + settings.overrun as u32;
         let order = self.order;
-        let list = list_seen(order, count);
-        if !list.ok {
-            return failed();
-        }
-        let seen = list.seen;
         let groups = self.groups;
         let threads = self.threads;
         let pass = threads_pass(
             threads,
+            order,
             groups,
-            seen,
             settings.thousandth as u32,
             limit,
             meter,
             time,
             most,
+            count,
             running,
         );
         if !pass.ok {

@@ -149,8 +149,7 @@ module _ (s : Scheduler) where
     pub settings : settingsOk (s .settings) ≡ true
     pub meter : (leb (s .meter) meterMost && leb (s .running) 64 && (idle || ltb (s .meter) meterLimit)) ≡ true
     pub few : s .count ≤ 64
-    pub list : (low && distinct (listed s)) ≡ true
-    pub threads : (entries && runs) ≡ true
+    pub threads : (low && distinct (listed s) && (entries && runs)) ≡ true
     pub groups : groupsOk s ≡ true
     pub time : s .time ≤ tagUnit * s .meter
 
@@ -173,8 +172,8 @@ module _ (s : Scheduler) where
         settings = is (settingsOk (s .settings)) (q .1);
         meter = is (most && number && early) (both (most && number) early (both most number (and-r rest most y) (k .number)) (k .early));
         few = leb→le (s .count) 64 (and-l few held (and-l (few && held) once (q .4)));
-        list = is (low && once) (both low once (held-low all) (and-r (few && held) once (q .4)));
-        threads = is (entries && runs) (both entries runs (entries-of (q .3) all) (k .runnable));
+        threads = is (low && once && (entries && runs)) (both (low && once) (entries && runs)
+            (both low once (held-low all) (and-r (few && held) once (q .4))) (both entries runs (entries-of (q .3) all) (k .runnable)));
         groups = is (groupsOk s) (q .2);
         time = leb→le (s .time) (tagUnit * s .meter) (and-r (rest && most) timed z);
       }
@@ -190,10 +189,12 @@ module _ (s : Scheduler) where
       let early : Bool = idle || ltb (s .meter) meterLimit in
       let meter = holds (most && number && early) (k .meter) in
       let limits = and-l (most && number) early meter in
-      let pass = holds (entries && runs) (k .threads) in
-      let each = and-l entries runs pass in
-      let entry = holds (low && once) (k .list) in
-      both (shapeOk s && settingsOk (s .settings) && groupsOk s && threads && list && runningOk s && most) (leb (s .time) (tagUnit * s .meter))
+      let pass = holds (low && once && (entries && runs)) (k .threads) in
+      let entry = and-l (low && once) (entries && runs) pass in
+      let turn = and-r (low && once) (entries && runs) pass in
+      let each = and-l entries runs turn in
+      both (shapeOk s && settingsOk (s .settings) && groupsOk s && threads && list && runningOk s && most)
+      (leb (s .time) (tagUnit * s .meter))
       (both (shapeOk s && settingsOk (s .settings) && groupsOk s && threads && list && runningOk s) most
       (into (shapeOk s) (settingsOk (s .settings)) (groupsOk s) threads list (runningOk s) (
         h,
@@ -205,7 +206,7 @@ module _ (s : Scheduler) where
         running-of (record {
           number = and-r most number limits;
           early = and-r (most && number) early meter;
-          runnable = and-r entries runs pass;
+          runnable = and-r entries runs turn;
         }),
       ))
       (and-l most number limits))

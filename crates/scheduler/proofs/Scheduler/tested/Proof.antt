@@ -10,26 +10,19 @@ use native.Mathlib.Omega.{arith}
 use borrow.Author.Needs.{needs}
 use borrow.Author.Tests.{not-true, not-false}
 use Rattle.base.proofs.Bools.{holds}
-use Rattle.scheduler.specs.State.{listed, meterMost}
-use Rattle.scheduler.specs.Inner.{ListSeen, ThreadsPass, Tested}
+use Rattle.scheduler.specs.State.{meterMost}
+use Rattle.scheduler.specs.Inner.{ThreadsPass, Tested}
 use Rattle.scheduler.proofs.Facts.{settings-facts}
-use Rattle.scheduler.proofs.sound.Whole.{Parts, unsound, whole, shaped, settings-most, running-most, meter-most}
+use Rattle.scheduler.proofs.sound.Whole.{unsound, whole, shaped, settings-most, running-most, meter-most}
 use Rattle.scheduler.proofs.Scheduler.tested.Statement.{statement}
 use Rattle.scheduler.proofs.Scheduler.tested.Tie as tie
 
 fails : (s : Scheduler) (ok : Bool) (used : List ℕ) → ok ≡ false → false ≡ sound s → Tested s ok used
 fails s ok used e u = record { test = e ∙ u; sums = λ z. absurd (false≢true (sym e ∙ z)) }
 
--- the places that the needs look back to, nearest first: past the list's test, the pass over the list, past the meter's and the settings'
--- tests; and the state tested
-abbrev fifth : tie.After-threads → tie.Else5
-fifth c = c .before .before .before
-
-abbrev list-pass : tie.After-threads-pass → tie.After-list-seen
-list-pass c = (fifth (c .before .before)) .before .before
-
-abbrev fourth : tie.After-list-seen → tie.Else4
-fourth c = c .before .before .before .before
+-- the places that the needs look back to, nearest first: past the time's test, the meter's and the settings' tests; and the state tested
+abbrev fourth : tie.After-struct-known3 → tie.Else4
+fourth c = c .before .before .before .before .before .before
 
 abbrev second : tie.Else3 → tie.Else2
 second c = c .before
@@ -103,14 +96,22 @@ add-limit c =
     let z = settings-facts ((state (first e)) .settings) (holds _ (set e)) in
     omega (arith, z .1, z .3, z .4)
 
-list-seen-requires : tie.Need-list-seen-requires
-list-seen-requires c κs = c .before .before .before .before .if3 .left
+cast-threads-pass : tie.Need-cast-threads-pass
+cast-threads-pass c = search needs
 
--- what the pass over the list says of this state
-seen : (c : tie.After-list-seen)
-    → ListSeen (listed (state (first ((fourth c) .before)))) (c .list-seen .result .ok) (c .list-seen .result .seen)
-unfolding listed
-seen c = c .list-seen .ensures
+threads-pass-requires : tie.Need-threads-pass-requires
+threads-pass-requires c κs =
+    let e = fourth c .before in
+    let b = second e in (
+      settings-most ((state (first e)) .settings) (set e),
+      e .if3 .left,
+      running-most (state (first e)) (sym (b .before .meter-ok .ensures) ∙ not-false _ (b .if2 .left)),
+    )
+
+-- what the pass over the list and the threads says of this state
+passed : (c : tie.After-threads-pass)
+    → ThreadsPass (state (first (fourth (c .before) .before))) (c .threads-pass .result .ok) (c .threads-pass .result .used)
+passed c = c .threads-pass .ensures (state (first (fourth (c .before) .before))) (record { limited = refl; bounded = refl })
 
 failed-requires-5 : tie.Need-failed-requires-5
 failed-requires-5 c κs = search needs
@@ -118,56 +119,22 @@ failed-requires-5 c κs = search needs
 returns-5 : tie.Need-returns-5
 returns-5 c =
     let d = c .before in
-    let l = d .before .before in
+    let p = d .before .before in
+    let s = state (first (fourth (p .before) .before)) in
     fails _ _ _ (c .failed5 .ensures)
-    (unsound (state (first ((fourth l) .before)))
-    (λ k. false≢true (sym (not-true _ (d .if5 .taken)) ∙ seen l .test ∙ k .list)))
+    (unsound s (λ k. false≢true (sym (not-true _ (d .if5 .taken)) ∙ passed p .test ∙ k .threads)))
 
-cast-threads-pass : tie.Need-cast-threads-pass
-cast-threads-pass c = search needs
-
-threads-pass-requires : tie.Need-threads-pass-requires
-threads-pass-requires c κs =
-    let e = (fourth ((fifth (c .before)) .before .before)) .before in
-    let b = second e in (
-      settings-most ((state (first e)) .settings) (set e),
-      running-most (state (first e)) (sym (b .before .meter-ok .ensures) ∙ not-false _ (b .if2 .left)),
-    )
-
--- what the pass over the threads says of this state
-passed : (c : tie.After-threads-pass)
-    → ThreadsPass (state (first ((fourth (list-pass c)) .before))) (c .threads-pass .result .ok) (c .threads-pass .result .used)
-passed c =
-    let l = list-pass c in
-    c .threads-pass .ensures (state (first ((fourth l) .before))) (record {
-      marks = seen l .marks (not-false _ ((fifth (c .before .before)) .if5 .left));
-      limited = refl;
-      bounded = refl;
-    })
-
-failed-requires-6 : tie.Need-failed-requires-6
-failed-requires-6 c κs = search needs
+groups-ok-requires : tie.Need-groups-ok-requires
+groups-ok-requires c κs = passed (c .before .before .before) .small (not-false _ (c .before .if5 .left))
 
 returns-6 : tie.Need-returns-6
 returns-6 c =
-    let d = c .before in
-    let p = d .before .before in
-    fails _ _ _ (c .failed6 .ensures)
-    (unsound (state (first ((fourth (list-pass p)) .before)))
-    (λ k. false≢true (sym (not-true _ (d .if6 .taken)) ∙ passed p .test ∙ k .threads)))
-
-groups-ok-requires : tie.Need-groups-ok-requires
-groups-ok-requires c κs = passed (c .before .before .before) .small (not-false _ (c .before .if6 .left))
-
-returns-7 : tie.Need-returns-7
-returns-7 c =
     let q = c .before .before .before .before in
-    let l = list-pass q in
-    let f = fourth l in
+    let f = fourth (q .before) in
     let a = first (f .before) in
     let b = second (f .before) in
     let p = passed q in
-    let ok = not-false _ (c .before .before .if6 .left) in
+    let ok = not-false _ (c .before .before .if5 .left) in
     record {
       test =
           whole (state a) (shaped (state a) _ (a .before .before .before .good .0)) (c .groups-ok .result)
@@ -176,7 +143,6 @@ returns-7 c =
             settings = sym (a .before .ok .ensures) ∙ not-false _ (a .if1 .left);
             meter = sym (b .before .meter-ok .ensures) ∙ not-false _ (b .if2 .left);
             few = f .before .if3 .left;
-            list = sym (seen l .test) ∙ not-false _ ((fifth (q .before .before)) .if5 .left);
             threads = sym (p .test) ∙ ok;
             groups = g;
             time = f .if4 .left;
@@ -201,12 +167,9 @@ tested-spec =
     returns-4
     cast-limit
     add-limit
-    list-seen-requires
-    failed-requires-5
-    returns-5
     cast-threads-pass
     threads-pass-requires
-    failed-requires-6
-    returns-6
+    failed-requires-5
+    returns-5
     groups-ok-requires
-    returns-7)
+    returns-6)

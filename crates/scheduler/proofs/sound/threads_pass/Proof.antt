@@ -9,27 +9,41 @@ use borrow.Author.Needs.{scaled-fits}
 use borrow.Author.Tests.{not-true, not-false}
 use Rattle.scheduler.specs.State.{noThread}
 use Rattle.scheduler.proofs.sound.Laws.{strict, next-fits}
-use Rattle.scheduler.proofs.sound.Threads.{numbers-of, ThreadsInv, inv-none, inv-skip, inv-stray, inv-free, inv-status, inv-bounds}
-use Rattle.scheduler.proofs.sound.Threads.{inv-home, inv-add, sum-fits, inv-idle, inv-run}
+use Rattle.scheduler.proofs.sound.Threads.{numbers-of, Listed, listed-of, ThreadsInv, inv-list, inv-none, inv-skip, inv-stray}
+use Rattle.scheduler.proofs.sound.Threads.{inv-bad, inv-home, inv-add, sum-fits, inv-idle, inv-run}
 use Rattle.scheduler.proofs.sound.threads_pass.Statement.{statement}
 use Rattle.scheduler.proofs.sound.threads_pass.Tie as tie
 
 abbrev Inv-loop : tie.InvT-loop
-Inv-loop m limit meter time most running threads groups seen used₀ i₀ used i =
-    ThreadsInv threads groups seen m limit meter time most running i used
+Inv-loop m limit meter time most count running threads groups seen used₀ i₀ used i =
+    ThreadsInv threads groups seen m limit meter time most count running i used
 
 abbrev μ-loop : tie.MeasureT-loop
-μ-loop m limit meter time most running threads groups seen used₀ i₀ used i = 64 - i
+μ-loop m limit meter time most count running threads groups seen used₀ i₀ used i = 64 - i
 
--- the places that the needs look back to
-abbrev in-loop : tie.Else2 Inv-loop μ-loop → tie.In-loop Inv-loop μ-loop
-in-loop p = p .before .before .before .before
+list-seen-requires : tie.Need-list-seen-requires Inv-loop μ-loop
+list-seen-requires c κs = c .pre .1
 
-abbrev in-loop2 : tie.Else3 Inv-loop μ-loop → tie.In-loop Inv-loop μ-loop
-in-loop2 p = p .before .before .before
+failed-requires : tie.Need-failed-requires Inv-loop μ-loop
+failed-requires c κs = tt
+
+returns : tie.Need-returns Inv-loop μ-loop
+returns c =
+    let l = c .before .before .before in
+    inv-list (l .before .args .order) (l .list-seen .ensures) (c .before .if1 .taken) (c .failed .ensures)
 
 loop-holds : tie.Need-loop-holds Inv-loop μ-loop
 loop-holds c = inv-none
+
+-- the start and the list, which is in order, from the loop
+abbrev start : tie.At-loop Inv-loop μ-loop → tie.Start Inv-loop μ-loop
+start p = p .before .before .before .before .before
+
+list : (p : tie.At-loop Inv-loop μ-loop)
+    → Listed (start p .args .count) (start p .args .order) (p .before .before .before .before .list-seen .result .seen)
+list p =
+    let a = start p .args in
+    listed-of (a .count) (a .order) (p .before .before .before .before .list-seen .ensures) (not-false _ (p .before .before .if1 .left))
 
 mul-t : tie.Need-mul-t Inv-loop μ-loop
 mul-t c = scaled-fits (c .before .loop .i) 64 48 (c .loop-test .taken) (lit< tt)
@@ -37,91 +51,67 @@ mul-t c = scaled-fits (c .before .loop .i) 64 48 (c .loop-test .taken) (lit< tt)
 array-copy-out-t : tie.Need-array-copy-out-t Inv-loop μ-loop
 array-copy-out-t c = c .loop-test .taken
 
-array-read-if1 : tie.Need-array-read-if1 Inv-loop μ-loop
-array-read-if1 c = c .before .loop-test .taken
+array-read-if2 : tie.Need-array-read-if2 Inv-loop μ-loop
+array-read-if2 c = c .before .loop-test .taken
 
 unlisted-ok-requires : tie.Need-unlisted-ok-requires Inv-loop μ-loop
 unlisted-ok-requires c κs = tt
-
-failed-requires : tie.Need-failed-requires Inv-loop μ-loop
-failed-requires c κs = tt
-
-returns : tie.Need-returns Inv-loop μ-loop
-returns c =
-    let f = c .before .before .before in
-    let t = f .before .before in
-    inv-stray (t .before .loop .inv) (t .loop-test .taken) (not-true _ (f .if1 .taken)) (c .before .before .unlisted-ok .ensures)
-    (c .before .if2 .taken) (c .failed .ensures)
-
-add-i : tie.Need-add-i Inv-loop μ-loop
-add-i c =
-    let l = in-loop c in
-    let l2 = l .before .loop in
-    next-fits (l2 .i) (l .loop-test .taken)
-
-loop-less : tie.Need-loop-less Inv-loop μ-loop
-loop-less c =
-    let l = in-loop c in
-    let l2 = l .before .loop in
-    falls 64 (l2 .i) (l .loop-test .taken)
-
-loop-again : tie.Need-loop-again Inv-loop μ-loop
-loop-again c =
-    let l = in-loop c in
-    let l2 = l .before .loop in
-    inv-skip (l2 .inv) (l .loop-test .taken) (not-true _ (c .before .before .if1 .taken)) (c .before .unlisted-ok .ensures)
-    (not-false _ (c .if2 .left))
 
 failed-requires-2 : tie.Need-failed-requires-2 Inv-loop μ-loop
 failed-requires-2 c κs = tt
 
 returns-2 : tie.Need-returns-2 Inv-loop μ-loop
 returns-2 c =
-    let f = c .before .before in
+    let f = c .before .before .before in
     let t = f .before .before in
-    inv-free (t .before .loop .inv) (t .loop-test .taken) (c .before .if3 .taken) (not-false _ (f .if1 .left)) (c .failed2 .ensures)
+    inv-stray (t .before .loop .inv) (t .loop-test .taken) (not-true _ (f .if2 .taken)) (c .before .before .unlisted-ok .ensures)
+    (c .before .if3 .taken) (list (t .before)) (c .failed2 .ensures)
+
+-- the turn of a number outside the list
+abbrev out : tie.Else3 Inv-loop μ-loop → tie.In-loop Inv-loop μ-loop
+out c = c .before .before .before .before
+
+add-i : tie.Need-add-i Inv-loop μ-loop
+add-i c = next-fits (out c .before .loop .i) (out c .loop-test .taken)
+
+loop-less : tie.Need-loop-less Inv-loop μ-loop
+loop-less c = falls 64 (out c .before .loop .i) (out c .loop-test .taken)
+
+loop-again : tie.Need-loop-again Inv-loop μ-loop
+loop-again c =
+    let t = out c in
+    inv-skip (t .before .loop .inv) (t .loop-test .taken) (not-true _ (c .before .before .if2 .taken)) (c .before .unlisted-ok .ensures)
+    (not-false _ (c .if3 .left))
+
+listed-ok-requires : tie.Need-listed-ok-requires Inv-loop μ-loop
+listed-ok-requires c κs = start (c .before .before .before) .pre .0
 
 failed-requires-3 : tie.Need-failed-requires-3 Inv-loop μ-loop
 failed-requires-3 c κs = tt
 
 returns-3 : tie.Need-returns-3 Inv-loop μ-loop
 returns-3 c =
-    let f = c .before .before in
-    let t = in-loop2 f in
-    inv-status (t .before .loop .inv) (t .loop-test .taken) (f .if3 .left) (not-false _ (f .before .if1 .left)) (c .before .if4 .taken) (c .failed3 .ensures)
-
-bounds-ok-requires : tie.Need-bounds-ok-requires Inv-loop μ-loop
-bounds-ok-requires c κs =
-    let f = c .before .before .before .before in
-    f .before .before .pre .0
-
-failed-requires-4 : tie.Need-failed-requires-4 Inv-loop μ-loop
-failed-requires-4 c κs = tt
-
-returns-4 : tie.Need-returns-4 Inv-loop μ-loop
-returns-4 c =
-    let b = c .before .before in
-    let f = b .before .before in
-    let t = in-loop2 f in
-    inv-bounds (t .before .loop .inv) (t .loop-test .taken) (f .if3 .left) (not-false _ (f .before .if1 .left)) (b .bounds-ok .ensures) (c .before .if5 .taken)
-    (c .failed4 .ensures)
+    let f = c .before .before .before in
+    let t = f .before .before in
+    inv-bad (t .before .loop .inv) (t .loop-test .taken) (not-false _ (f .if2 .left)) (c .before .before .listed-ok .ensures)
+    (c .before .if4 .taken) (list (t .before)) (c .failed3 .ensures)
 
 cast-g : tie.Need-cast-g Inv-loop μ-loop
-cast-g c = fits-8-64 (c .struct-known .given .1 .1 .1 .1 .1 .1 .0)
+cast-g c = fits-8-64 (c .struct-known2 .given .1 .1 .1 .1 .1 .1 .0)
 
--- after the numbers' test: the loop, the thread, and its group, which is below 16
-module _ (c : tie.After-struct-known Inv-loop μ-loop) where
+-- after the test of a number in the list: the loop, the thread, and its group, which is below 16
+module _ (c : tie.After-struct-known2 Inv-loop μ-loop) where
   abbrev turn : tie.In-loop Inv-loop μ-loop
-  turn = c .before .before .before .before .before .before .before
+  turn = c .before .before .before .before .before
 
   abbrev group : ℕ
-  group = (getD (turn .before .before .args .t1) (turn .before .loop .i) noThread) .«group_or_weight»
+  group = (getD (start (turn .before) .args .t1) (turn .before .loop .i) noThread) .«group_or_weight»
 
   low : group < 16
   low =
-      let s = turn .before .before in
-      numbers-of (s .args .m) (s .args .meter) (getD (s .args .t1) (turn .before .loop .i) noThread)
-      (sym (c .before .before .bounds-ok .ensures) ∙ not-false _ (c .before .if5 .left)) .low
+      let a = start (turn .before) .args in
+      numbers-of (a .m) (a .meter) (getD (a .t1) (turn .before .loop .i) noThread)
+      (sym (c .before .before .listed-ok .ensures) ∙ not-false _ (c .before .if4 .left)) .low
 
 mul-opened : tie.Need-mul-opened Inv-loop μ-loop
 mul-opened c = scaled-fits (group c) 16 4 (low c) (lit< tt)
@@ -129,15 +119,16 @@ mul-opened c = scaled-fits (group c) 16 4 (low c) (lit< tt)
 element-copy-out-opened : tie.Need-element-copy-out-opened Inv-loop μ-loop
 element-copy-out-opened c = low c
 
-failed-requires-5 : tie.Need-failed-requires-5 Inv-loop μ-loop
-failed-requires-5 c κs = tt
+failed-requires-4 : tie.Need-failed-requires-4 Inv-loop μ-loop
+failed-requires-4 c κs = tt
 
-returns-5 : tie.Need-returns-5 Inv-loop μ-loop
-returns-5 c =
+returns-4 : tie.Need-returns-4 Inv-loop μ-loop
+returns-4 c =
     let k = c .before .before in
-    let f = k .before .before .before .before in
+    let f = k .before .before in
     let t = turn k in
-    inv-home (t .before .loop .inv) (t .loop-test .taken) (f .if3 .left) (not-false _ (f .before .if1 .left)) (c .before .if6 .taken) (c .failed5 .ensures)
+    inv-home (t .before .loop .inv) (t .loop-test .taken) (not-false _ (f .before .if2 .left)) (f .listed-ok .ensures)
+    (c .before .if5 .taken) (list (t .before)) (c .failed4 .ensures)
 
 mul-used : tie.Need-mul-used Inv-loop μ-loop
 mul-used c = scaled-fits (group (c .before)) 16 4 (low (c .before)) (lit< tt)
@@ -146,17 +137,15 @@ array-read-used : tie.Need-array-read-used Inv-loop μ-loop
 array-read-used c = low (c .before)
 
 cast-used : tie.Need-cast-used Inv-loop μ-loop
-cast-used c = fits-widen tt (c .struct-known2 .given .1 .1 .1 .1 .1 .0)
+cast-used c = fits-widen tt (c .struct-known3 .given .1 .1 .1 .1 .1 .0)
 
 add-used : tie.Need-add-used Inv-loop μ-loop
 add-used c =
     let k = c .before .before in
-    let b = k .before .before in
-    let v = b .before in
-    let f = v .before in
+    let f = k .before .before in
     let t = turn k in
-    sum-fits (t .before .loop .inv) (t .loop-test .taken) (f .if3 .left) (not-false _ (f .before .if1 .left)) (v .if4 .left)
-    (b .bounds-ok .ensures) (not-false _ (k .before .if5 .left)) (c .before .if6 .left)
+    sum-fits (t .before .loop .inv) (t .loop-test .taken) (not-false _ (f .before .if2 .left)) (f .listed-ok .ensures)
+    (not-false _ (k .before .if4 .left)) (c .before .if5 .left)
 
 mul-used-2 : tie.Need-mul-used-2 Inv-loop μ-loop
 mul-used-2 c = scaled-fits (group (c .before .before)) 16 4 (low (c .before .before)) (lit< tt)
@@ -173,29 +162,25 @@ loop-less-2 c = let t = turn (c .before .before) in falls 64 (t .before .loop .i
 loop-again-2 : tie.Need-loop-again-2 Inv-loop μ-loop
 loop-again-2 c =
     let k = c .before .before in
-    let b = k .before .before in
-    let v = b .before in
-    let f = v .before in
+    let f = k .before .before in
     let t = turn k in
-    inv-add (t .before .loop .inv) (t .loop-test .taken) (f .if3 .left) (not-false _ (f .before .if1 .left)) (v .if4 .left)
-    (b .bounds-ok .ensures) (not-false _ (k .before .if5 .left)) (c .before .if6 .left)
+    inv-add (t .before .loop .inv) (t .loop-test .taken) (not-false _ (f .before .if2 .left)) (f .listed-ok .ensures)
+    (not-false _ (k .before .if4 .left)) (c .before .if5 .left)
 
 passed-requires : tie.Need-passed-requires Inv-loop μ-loop
 passed-requires c κs = tt
 
-returns-6 : tie.Need-returns-6 Inv-loop μ-loop
-returns-6 c =
-    let l = c .before .before .before .loop in
-    inv-idle (l .inv) (c .before .before .loop-test .left) (c .before .if7 .taken) (c .passed .ensures)
+returns-5 : tie.Need-returns-5 Inv-loop μ-loop
+returns-5 c =
+    let l = c .before .before in
+    inv-idle (l .before .loop .inv) (l .loop-test .left) (list (l .before)) (c .before .if6 .taken) (c .passed .ensures)
 
 -- the running thread's number
-running : (c : tie.Else7 Inv-loop μ-loop) → c .before .before .before .args .running < 64
-running c = strict (c .before .before .before .pre .1) (c .if7 .left)
+running : (c : tie.Else6 Inv-loop μ-loop) → start (c .before .before) .args .running < 64
+running c = strict (start (c .before .before) .pre .2) (c .if6 .left)
 
 mul-x : tie.Need-mul-x Inv-loop μ-loop
-mul-x c =
-    let s = c .before .before .before .args in
-    scaled-fits (s .running) 64 48 (running c) (lit< tt)
+mul-x c = scaled-fits (start (c .before .before) .args .running) 64 48 (running c) (lit< tt)
 
 array-copy-out-x : tie.Need-array-copy-out-x Inv-loop μ-loop
 array-copy-out-x c = running c
@@ -203,12 +188,11 @@ array-copy-out-x c = running c
 passed-requires-2 : tie.Need-passed-requires-2 Inv-loop μ-loop
 passed-requires-2 c κs = tt
 
-returns-7 : tie.Need-returns-7 Inv-loop μ-loop
-returns-7 c =
-    let i7 = c .before .before .before in
-    let l = i7 .before in
-    let l2 = l .before .loop in
-    inv-run (l2 .inv) (l .loop-test .left) (i7 .if7 .left) (c .passed2 .ensures)
+returns-6 : tie.Need-returns-6 Inv-loop μ-loop
+returns-6 c =
+    let i = c .before .before .before in
+    let l = i .before in
+    inv-run (l .before .loop .inv) (l .loop-test .left) (list (l .before)) (i .if6 .left) (c .passed2 .ensures)
 
 pub threads-pass-spec : {M : Type 1} → statement M
 threads-pass-spec =
@@ -216,28 +200,27 @@ threads-pass-spec =
     (tie.spec
     Inv-loop
     μ-loop
+    list-seen-requires
+    failed-requires
+    returns
     loop-holds
     mul-t
     array-copy-out-t
-    array-read-if1
+    array-read-if2
     unlisted-ok-requires
-    failed-requires
-    returns
+    failed-requires-2
+    returns-2
     add-i
     loop-less
     loop-again
-    failed-requires-2
-    returns-2
+    listed-ok-requires
     failed-requires-3
     returns-3
-    bounds-ok-requires
-    failed-requires-4
-    returns-4
     cast-g
     mul-opened
     element-copy-out-opened
-    failed-requires-5
-    returns-5
+    failed-requires-4
+    returns-4
     mul-used
     array-read-used
     cast-used
@@ -248,8 +231,8 @@ threads-pass-spec =
     loop-less-2
     loop-again-2
     passed-requires
-    returns-6
+    returns-5
     mul-x
     array-copy-out-x
     passed-requires-2
-    returns-7)
+    returns-6)
