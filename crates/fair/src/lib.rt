@@ -1,6 +1,6 @@
 // Start-time fair queueing of best-effort threads over plain numbers: tags, the choice and what soundness asks of a tag. No division rounds:
 // the unit of tags is a multiple of every weight.
-ghost use Prim.Native.Nat.{_-_, min};
+ghost use Prim.Native.Nat.{min};
 ghost use mathlib.Core.Path.{_≡_};
 ghost use mathlib.Core.Bool.{not, _&&_, _||_};
 ghost use lib.Dec.{ltb, eqb};
@@ -55,17 +55,8 @@ pub fn outside(weight: u64) -> bool
     (weight < WEIGHT_LEAST as u64) | ((WEIGHT_MOST as u64) < weight)
 }
 
-// How far a tag is above the virtual time.
-fn above(tag: u64, time: u64) -> u64
-    ensures { λ r. ⌜ r ≡ tag - time ⌝ }
-{
-    if time < tag {
-        return tag - time;
-    }
-    0
-}
-
-// What soundness asks of a best-effort thread's weight and tag. It runs for each of them at every call, so it multiplies and does not divide.
+// What soundness asks of a best-effort thread's weight and tag. It runs for each of them at every call, so it multiplies and does not
+// divide, and each test returns by itself.
 pub fn tag_ok(
     limit: u32,
     time: u64,
@@ -83,15 +74,21 @@ pub fn tag_ok(
     if WEIGHT_MOST < weight {
         return false;
     }
+    if most < tag {
+        return false;
+    }
+    if running {
+        return tag == time;
+    }
+    if tag < time {
+        return !ready;
+    }
     let top = limit as u64 * TAG_UNIT;
-    let over = above(tag, time);
+    let over = tag - time;
     if top < over {
         return false;
     }
-    (over * weight as u64 <= top)
-        & (!ready | (time <= tag))
-        & (!running | (tag == time))
-        & (tag <= most)
+    over * weight as u64 <= top
 }
 
 // Whether a thread comes before the best so far (64: none), whose tag is `least`: it is ready, and its tag is smaller.

@@ -13,8 +13,8 @@ use Rattle.scheduler.specs.declared.effort.Efforts.{Efforts}
 use Rattle.quota.specs.Quota.{natOf}
 use Rattle.fair.specs.Tags.{tagUnit, choose, tagOk}
 use Rattle.scheduler.specs.State.{noThread, isAdmitted, isRunnable, hasReservation, isEffort, groupOf, weightOf, limitOf}
-use Rattle.scheduler.specs.State.{reservedAt, runnableAt, openAt, listed, meterMost, chargeMost}
-use Rattle.scheduler.specs.Sound.{quotaOk, accountOk, threadOk, reservedIn, sound}
+use Rattle.scheduler.specs.State.{threadAt, admittedAt, reservedAt, effortAt, openAt, listed, meterMost, chargeMost}
+use Rattle.scheduler.specs.Sound.{quotaOk, accountOk, reservedIn, sound}
 use Rattle.scheduler.specs.Effects.{chargedThread, spentThread}
 
 -- the state s with these parts in place of its own
@@ -38,12 +38,12 @@ abbrev pub listedOk : ℕ → ℕ → Thread → Bool
 listedOk m meter t = isAdmitted t && leb (t .status) 2 && (quotaOk m t && (accountOk meter t && ltb (groupOf t) 16))
 
 -- a number outside the list: free, or a best-effort thread's, whose account and tag are in order
-abbrev pub unlistedOk : ℕ → ℕ → ℕ → ℕ → Bool → Thread → Bool
-unlistedOk limit meter time most running t =
+abbrev pub unlistedOk : ℕ → ℕ → ℕ → ℕ → Thread → Bool
+unlistedOk limit meter time most t =
     eqb (t .status) 0
     || (leb (t .status) 2
     && eqb (t .reservation) 0
-    && (accountOk meter t && tagOk limit time most (weightOf t) (isRunnable t) running (t .tag)))
+    && (accountOk meter t && tagOk limit time most (weightOf t) (isRunnable t) false (t .tag)))
 
 -- what a report requires of the ticks used and of the thread's account; of m and a reserved thread's quota; of a best-effort one's tag
 pub record Accounted (used : ℕ) (t : Thread) : Type 0 where
@@ -109,9 +109,24 @@ pub record ListSeen (l : List ℕ) (ok : Bool) (seen : List Bool) : Type 0 where
   pub test : ok ≡ entriesOk l
   pub marks : ok ≡ true → Marks seen l
 
--- thread n passes its test, and stands in the list only if it is reserved
+-- a best-effort thread's weight and tag, those of a running one or not
+abbrev pub tagged : Scheduler → Thread → Bool → Bool
+tagged s t running =
+    tagOk (limitOf (s .settings)) (s .time) (tagUnit * s .meter) (weightOf t) (isRunnable t) running (t .tag)
+
+-- thread n passes its test, but for what a running one's tag is, and stands in the list only if it is reserved
 unfoldable pub entryOk : Scheduler → ℕ → Bool
-entryOk s n = threadOk s n && (reservedAt s n || not (member n (listed s)))
+entryOk s n =
+    leb ((threadAt s n) .status) 2
+    && (not (reservedAt s n)
+    || (member n (listed s) && quotaOk (s .settings .thousandth) (threadAt s n) && openAt s (groupOf (threadAt s n))))
+    && (not (admittedAt s n) || accountOk (s .meter) (threadAt s n))
+    && (not (effortAt s n) || tagged s (threadAt s n) false)
+    && (reservedAt s n || not (member n (listed s)))
+
+-- the running thread is runnable, and a best-effort one's tag is the virtual time
+abbrev pub turnOk : ℕ → Thread → Bool
+turnOk time t = isRunnable t && (hasReservation t || eqb (t .tag) time)
 
 -- the reservations in each group, and their bound: at most 64 reservations
 abbrev pub Sums : Scheduler → List ℕ → Type 0
@@ -120,9 +135,9 @@ Sums s used = (g : ℕ) → g < 16 → getD used g 0 ≡ reservedIn s g
 abbrev pub Small : List ℕ → Type 0
 Small used = (g : ℕ) → g < 16 → getD used g 0 ≤ 64000
 
--- each thread passes, and the running one is runnable
+-- each thread passes, and so does the running one
 abbrev pub threadsOk : Scheduler → Bool
-threadsOk s = everyBelow (entryOk s) 64 && (eqb (s .running) 64 || runnableAt s (s .running))
+threadsOk s = everyBelow (entryOk s) 64 && (eqb (s .running) 64 || turnOk (s .time) (threadAt s (s .running)))
 
 -- the pass over the list and the threads, with the reservations in each group
 pub record ThreadsPass (s : Scheduler) (ok : Bool) (used : List ℕ) : Type 0 where

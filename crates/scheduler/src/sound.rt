@@ -104,18 +104,33 @@ fn listed_ok(t: Thread, m: u32, meter: u64) -> bool
     paid & (g < Scheduler::GROUPS)
 }
 
-// A number that does not stand in the list is free or that of a best-effort thread.
-fn unlisted_ok(t: Thread, limit: u32, meter: u64, time: u64, most: u64, running: bool) -> bool
-    ensures { λ r. ⌜ r ≡ unlistedOk limit meter time most running t ⌝ }
+// A number that does not stand in the list is free or that of a best-effort thread. Of the running one the rest is tested after the loop.
+fn unlisted_ok(t: Thread, limit: u32, meter: u64, time: u64, most: u64) -> bool
+    ensures { λ r. ⌜ r ≡ unlistedOk limit meter time most t ⌝ }
 {
     let status = t.status;
     if status == 0 {
         return true;
     }
-    let paid = account_ok(t, meter);
-    let ready = status == 1;
-    let tagged = fair::tag_ok(limit, time, most, t.group_or_weight, ready, running, t.tag);
-    (status <= 2) & (t.reservation == 0) & (paid & tagged)
+    if 2 < status {
+        return false;
+    }
+    let reservation = t.reservation;
+    if 0 < reservation {
+        return false;
+    }
+    if !account_ok(t, meter) {
+        return false;
+    }
+    fair::tag_ok(
+        limit,
+        time,
+        most,
+        t.group_or_weight,
+        status == 1,
+        false,
+        t.tag,
+    )
 }
 
 // The list's entries are thread numbers, each once.
@@ -159,7 +174,7 @@ fn failed() -> Pass
     }
 }
 
-// Each thread is in order; `ok` says whether the running one is runnable.
+// Each thread is in order; `ok` says whether the running one is runnable and, a best-effort one, at the virtual time.
 fn passed(used: [u32; 16], ok: bool) -> Pass
     ensures { λ r. ⌜ (r .ok ≡ ok) × (r .used ≡ used) ⌝ }
 {
@@ -194,8 +209,7 @@ fn threads_pass(
     while i < THREADS {
         let t = threads[i];
         if !seen[i] {
-            let runs = running as usize == i;
-            if !unlisted_ok(t, limit, meter, time, most, runs) {
+            if !unlisted_ok(t, limit, meter, time, most) {
                 return failed();
             }
             i += 1;
@@ -217,7 +231,8 @@ fn threads_pass(
     }
     let r = running as usize;
     let x = threads[r];
-    passed(used, x.status == 1)
+    let ok = (x.status == 1) & ((0 < x.reservation) | (x.tag == time));
+    passed(used, ok)
 }
 
 // Parents have lower numbers: counted down, a group's children are added to it before it is tested.

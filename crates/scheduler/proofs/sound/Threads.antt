@@ -20,12 +20,13 @@ use Rattle.scheduler.specs.declared.Thread.{Thread}
 use Rattle.scheduler.specs.declared.Group.{Group}
 use Rattle.scheduler.specs.declared.Scheduler.{Scheduler}
 use Rattle.scheduler.specs.State.{noThread, noGroup, isAdmitted, hasReservation, isReserved, groupOf, limitOf, threadAt, groupAt}
-use Rattle.scheduler.specs.State.{admittedAt, reservedAt, effortAt, runnableAt, reservationAt, openAt}
+use Rattle.scheduler.specs.State.{admittedAt, reservedAt, effortAt, reservationAt, openAt}
 use Rattle.quota.specs.Quota.{natOf}
 use Rattle.fair.specs.Tags.{tagUnit}
 use Rattle.scheduler.specs.State.{listed}
-use Rattle.scheduler.specs.Sound.{quotaOk, accountOk, effortOk, threadIn, reservedIn, threadOk}
-use Rattle.scheduler.specs.Inner.{given, listedOk, unlistedOk, Handed, ListSeen, Small, entriesOk, entryOk, threadsOk, ThreadsPass}
+use Rattle.scheduler.specs.Sound.{quotaOk, accountOk, threadIn, reservedIn}
+use Rattle.scheduler.specs.Inner.{given, listedOk, unlistedOk, Handed, ListSeen, Small, entriesOk, tagged, entryOk}
+use Rattle.scheduler.specs.Inner.{turnOk, threadsOk, ThreadsPass}
 use Rattle.scheduler.proofs.sound.Laws.{same, bump, Sized, sized-none, sized-more, sized-add}
 
 -- what `listedOk` says
@@ -102,21 +103,24 @@ inside false false h q l p c f z = refl
 
 module _ (s : Scheduler) (n : ℕ) where
   pub unlisted-test : member n (listed s) ≡ false
-      → unlistedOk (limitOf (s .settings)) (s .meter) (s .time) (tagUnit * s .meter) (eqb (s .running) n) (threadAt s n) ≡ entryOk s n
-  unfolding entryOk threadOk admittedAt reservedAt effortAt effortOk
+      → unlistedOk (limitOf (s .settings)) (s .meter) (s .time) (tagUnit * s .meter) (threadAt s n) ≡ entryOk s n
+  unfolding entryOk admittedAt reservedAt effortAt
   unlisted-test e =
       let t = threadAt s n in
       rw (e, none-above (t .status), none-above (t .reservation))
       (sym (outside (leb (t .status) 2) (isAdmitted t) (hasReservation t) (quotaOk (s .settings .thousandth) t) (openAt s (groupOf t))
-      (accountOk (s .meter) t) (effortOk s n) (λ z. le-leb (t .status) 2 (omega (arith, ltb-false 0 (t .status) z)))))
+      (accountOk (s .meter) t) (tagged s t false) (λ z. le-leb (t .status) 2 (omega (arith, ltb-false 0 (t .status) z)))))
 
   -- and then it is no reserved thread
   pub unlisted-free : member n (listed s) ≡ false → T (entryOk s n) → reservedAt s n ≡ false
-  unfolding entryOk threadOk
+  unfolding entryOk
   unlisted-free e z =
       by (λ b. reservedAt s n ≡ b → b ≡ false) (reservedAt s n)
-      (λ r _. let off : entryOk s n ≡ false = rw (r, e) (fails (leb ((threadAt s n) .status) 2)
-      (not (admittedAt s n) || accountOk (s .meter) (threadAt s n)) (not (effortAt s n) || effortOk s n)) in absurd (subst T off z))
+      (λ r _.
+      let off : entryOk s n ≡ false =
+      rw (r, e) (fails (leb ((threadAt s n) .status) 2) (not (admittedAt s n) || accountOk (s .meter) (threadAt s n))
+      (not (effortAt s n) || tagged s (threadAt s n) false)) in
+      absurd (subst T off z))
       (λ _ _. refl)
       refl
     where
@@ -126,13 +130,13 @@ module _ (s : Scheduler) (n : ℕ) where
 
   pub listed-test : member n (listed s) ≡ true
       → (listedOk (s .settings .thousandth) (s .meter) (threadAt s n) && eqb ((groupAt s (groupOf (threadAt s n))) .opened) 1) ≡ entryOk s n
-  unfolding entryOk threadOk admittedAt reservedAt effortAt openAt
+  unfolding entryOk admittedAt reservedAt effortAt openAt
   listed-test e =
       let t = threadAt s n in
       let m = s .settings .thousandth in
       rw e
       (sym (inside (leb (t .status) 2) (isAdmitted t) (hasReservation t) (quotaOk m t) (ltb (groupOf t) 16)
-      (eqb ((groupAt s (groupOf t)) .opened) 1) (accountOk (s .meter) t) (effortOk s n) (quota-has m t)))
+      (eqb ((groupAt s (groupOf t)) .opened) 1) (accountOk (s .meter) t) (tagged s t false) (quota-has m t)))
 
 -- the reservation of thread n in group g
 unfoldable pub part : Scheduler → ℕ → ℕ → ℕ
@@ -190,7 +194,7 @@ threads-fail s i h f = unpassed s (λ z.
     f (everyBelow-at (entryOk s) 64 (and-l each _ (and-r (entriesOk (listed s)) (threadsOk s) z)) i h))
 
 threads-end : (s : Scheduler) (used : List ℕ) → entriesOk (listed s) ≡ true → ThreadsTo s 64 used → Small used → (ok : Bool)
-    → ok ≡ (eqb (s .running) 64 || runnableAt s (s .running)) → ThreadsPass s ok used
+    → ok ≡ (eqb (s .running) 64 || turnOk (s .time) (threadAt s (s .running))) → ThreadsPass s ok used
 unfolding reservedIn part
 threads-end s used l t small ok e = record {
   test = e ∙ sym (rw (l, is (everyBelow (entryOk s) 64) (everyBelow-of (entryOk s) 64 (t .passed))));
@@ -253,10 +257,10 @@ module _ {threads : List Thread} {groups : List Group} {seen : List Bool} {m lim
     place e = sym (l .pass .marks refl i more) ∙ e
 
     -- the test of its entry i
-    unlisted : getD seen i false ≡ false → unlistedOk limit meter time most (eqb running i) t ≡ entryOk state i
+    unlisted : getD seen i false ≡ false → unlistedOk limit meter time most t ≡ entryOk state i
     unlisted e =
-        subst (λ (n : ℕ). unlistedOk n meter time most (eqb running i) t ≡ entryOk state i) (q .limited)
-        (subst (λ (n : ℕ). unlistedOk (limitOf (s .settings)) meter time n (eqb running i) t ≡ entryOk state i) (q .bounded)
+        subst (λ (n : ℕ). unlistedOk n meter time most t ≡ entryOk state i) (q .limited)
+        (subst (λ (n : ℕ). unlistedOk (limitOf (s .settings)) meter time n t ≡ entryOk state i) (q .bounded)
         (unlisted-test state i (place e)))
 
     inlist : getD seen i false ≡ true → (listedOk m meter t && eqb ((getD groups (groupOf t) noGroup) .opened) 1) ≡ entryOk state i
@@ -265,7 +269,7 @@ module _ {threads : List Thread} {groups : List Group} {seen : List Bool} {m lim
     fail : (T (entryOk state i) → ⊥) → {ok : Bool} {after : List ℕ} → ok ≡ false → ThreadsPass state ok after
     fail g {ok} {after} = threads-fail state i more g ok after
 
-  module _ (e : getD seen i false ≡ false) {b : Bool} (test : b ≡ unlistedOk limit meter time most (eqb running i) t) where
+  module _ (e : getD seen i false ≡ false) {b : Bool} (test : b ≡ unlistedOk limit meter time most t) where
     pub inv-skip : b ≡ true → ThreadsInv threads groups seen m limit meter time most count running (i + 1) used
     inv-skip f = record {
       within-64 = omega arith;
@@ -323,15 +327,13 @@ module _ {threads : List Thread} {groups : List Group} {seen : List Bool} {m lim
   abbrev result : Bool → List ℕ → Type 0
   result ok after = Answers threads order groups m limit meter time most count running ok after
 
-  ended : (ok : Bool)
-      → ((s : Scheduler) → ok ≡ (eqb running 64 || runnableAt (given s threads order groups m meter time count running) running))
-      → result ok used
+  ended : (ok : Bool) → ok ≡ (eqb running 64 || turnOk time (getD threads running noThread)) → result ok used
   unfolding listed
   ended ok e s q =
       let z : i ≡ 64 = omega (arith, k .within-64) in
       let x : Scheduler = given s threads order groups m meter time count running in
       threads-end x used (sym (l .pass .test)) (subst (λ (j : ℕ). ThreadsTo x j used) z (k .to l s q))
-      (λ g h. omega (arith, k .sized .small g h)) ok (e s)
+      (λ g h. omega (arith, k .sized .small g h)) ok e
 
   -- a result that is equal
   module _ {ok : Bool} {after : List ℕ} where
@@ -339,11 +341,10 @@ module _ {threads : List Thread} {groups : List Group} {seen : List Bool} {m lim
     equal b e a = subst (λ (o : Bool). result o after) (sym (e .0)) (subst (λ (u : List ℕ). result b u) (sym (e .1)) a)
 
     pub inv-idle : running ≡ 64 → (ok ≡ true) × (after ≡ used) → Answers threads order groups m limit meter time most count running ok after
-    inv-idle e q = equal true q (ended true (λ s. sym (rw (eq-eqb running 64 e))))
+    inv-idle e q = equal true q (ended true (sym (rw (eq-eqb running 64 e))))
 
-    pub inv-run : (running ≡ 64 → ⊥) → (ok ≡ eqb ((getD threads running noThread) .status) 1) × (after ≡ used)
+    pub inv-run : (running ≡ 64 → ⊥) → (ok ≡ turnOk time (getD threads running noThread)) × (after ≡ used)
         → Answers threads order groups m limit meter time most count running ok after
-    unfolding runnableAt
     inv-run n q =
-        equal (eqb ((getD threads running noThread) .status) 1) q
-        (ended (eqb ((getD threads running noThread) .status) 1) (λ s. sym (rw (ne-eqb running 64 n))))
+        let r : Bool = turnOk time (getD threads running noThread) in
+        equal r q (ended r (sym (rw (ne-eqb running 64 n))))

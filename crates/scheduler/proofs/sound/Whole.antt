@@ -1,8 +1,8 @@
 -- The parts of the test together are `sound`. The list's test and the threads' tests meet in `entryOk`: every number in the list is
 -- that of a reserved thread just where no other number is marked. The running thread's test is shared out between the meter's part
--- and the threads' part; a runnable thread is admitted.
-use Prim.Native.Nat.{_*_, _≤_, _<_}
-use mathlib.Core.Path.{_≡_, sym, subst}
+-- and the threads' part, which has that a best-effort thread's tag is then the virtual time; a runnable thread is admitted.
+use Prim.Native.Nat.{ℕ, _*_, _≤_, _<_}
+use mathlib.Core.Path.{_≡_, refl, sym, subst}
 use mathlib.Core.List.{List}
 use mathlib.Core.Bool.{Bool, true, false, not, _&&_, _||_}
 use native.Mathlib.Omega.{arith}
@@ -11,33 +11,23 @@ use mir.Val.{Val}
 use denote.Laws.{Is}
 use denote.Struct.Declared.{row}
 use lib.Dec.{T, ltb, leb, eqb, ltb→lt, leb→le, le→leb, eqb→eq}
-use borrow.Author.Tests.{lt-ltb, eq-eqb, eqb-true, eqb-false}
-use Rattle.base.specs.Checks.{within}
-use Rattle.base.specs.Lists.{member, distinct, everyOf, everyBelow}
-use Rattle.base.proofs.Bools.{by, cases, and-l, and-r, both, is, holds, or-right}
+use borrow.Author.Tests.{lt-ltb, eq-eqb, ne-eqb, eqb-true, eqb-false}
+use Rattle.base.specs.Lists.{distinct, everyOf, everyBelow}
+use Rattle.base.proofs.Bools.{by, cases, and-l, and-r, both, is, holds, implies, implied, or-right}
 use Rattle.base.proofs.Lists.{everyOf-at, everyOf-map}
 use Rattle.base.proofs.Sums.{everyBelow-at, everyBelow-of}
 use Rattle.scheduler.specs.declared.Settings.{Settings}
+use Rattle.scheduler.specs.declared.Thread.{Thread}
 use Rattle.scheduler.specs.declared.Scheduler.{Scheduler}
-use Rattle.scheduler.specs.State.{threadAt, admittedAt, reservedAt, runnableAt, listed}
-use Rattle.scheduler.specs.State.{meterLimit, meterMost, sliceMost}
+use Rattle.scheduler.specs.State.{isAdmitted, isRunnable, hasReservation, threadAt, admittedAt, reservedAt, effortAt, runnableAt}
+use Rattle.scheduler.specs.State.{listed, meterLimit, meterMost}
 use Rattle.fair.specs.Tags.{tagUnit}
 use Rattle.scheduler.specs.Sound.{settingsOk, groupsOk, threadOk, listOk, runningOk, shapeOk, sound}
-use Rattle.scheduler.specs.Inner.{entryOk}
+use Rattle.scheduler.specs.Inner.{entryOk, turnOk}
 use Rattle.scheduler.proofs.Facts.{settings-facts}
 use Rattle.scheduler.proofs.Scheduler as scheduler
 use Rattle.scheduler.proofs.sound.Laws.{same}
-
--- m only if a
-only : (a m : Bool) → (T m → T a) → T (a || not m)
-only true m f = tt
-only false true f = f tt
-only false false f = tt
-
-if : (a m : Bool) → T (a || not m) → T m → T a
-if true m t u = tt
-if false true t u = t
-if false false t u = u
+use Rattle.scheduler.proofs.sound.Entries.{timed, entry-of, timed-of, thread-of, reserved-of}
 
 -- six tests
 abbrev Six : Bool → Bool → Bool → Bool → Bool → Bool → Type 0
@@ -76,7 +66,7 @@ module _ (s : Scheduler) where
   idle = eqb (s .running) 64
 
   abbrev runs : Bool
-  runs = idle || runnableAt s (s .running)
+  runs = idle || turnOk (s .time) (threadAt s (s .running))
 
   -- the list and the threads
 
@@ -84,23 +74,16 @@ module _ (s : Scheduler) where
   held-low = everyOf-map (λ n. ltb n 64 && reservedAt s n) (λ n. ltb n 64) (listed s) (λ n u v. and-l (ltb n 64) (reservedAt s n) v)
 
   entries-of : T threads → T held → T entries
-  unfolding entryOk
   entries-of t h = everyBelow-of (entryOk s) 64 (λ n l.
-      both (threadOk s n) (reservedAt s n || not (member n (listed s))) (everyBelow-at (threadOk s) 64 t n l)
-      (only (reservedAt s n) (member n (listed s))
-      (λ u. and-r (ltb n 64) (reservedAt s n) (everyOf-at (λ n. ltb n 64 && reservedAt s n) (listed s) h n u))))
+      entry-of s n (everyBelow-at (threadOk s) 64 t n l)
+      (λ u. and-r (ltb n 64) (reservedAt s n) (everyOf-at (λ n. ltb n 64 && reservedAt s n) (listed s) h n u)))
 
-  threads-of : T entries → T threads
-  unfolding entryOk
-  threads-of t = everyBelow-of (threadOk s) 64 (λ n l.
-      and-l (threadOk s n) (reservedAt s n || not (member n (listed s))) (everyBelow-at (entryOk s) 64 t n l))
+  threads-of : T entries → ((n : ℕ) → n < 64 → T (timed s n)) → T threads
+  threads-of t f = everyBelow-of (threadOk s) 64 (λ n l. thread-of s n (everyBelow-at (entryOk s) 64 t n l) (f n l))
 
   held-of : T entries → T low → T held
-  unfolding entryOk
   held-of t = everyOf-map (λ n. ltb n 64) (λ n. ltb n 64 && reservedAt s n) (listed s) (λ n u v.
-      both (ltb n 64) (reservedAt s n) v
-      (if (reservedAt s n) (member n (listed s))
-      (and-r (threadOk s n) (reservedAt s n || not (member n (listed s))) (everyBelow-at (entryOk s) 64 t n (ltb→lt n 64 v))) u))
+      both (ltb n 64) (reservedAt s n) v (reserved-of s n (everyBelow-at (entryOk s) 64 t n (ltb→lt n 64 v)) u))
 
   -- the running thread
 
@@ -109,9 +92,26 @@ module _ (s : Scheduler) where
     pub early : T (idle || ltb (s .meter) meterLimit)
     pub runnable : T runs
 
-  runs-of : T (runningOk s) → Runs
+  -- a runnable thread is admitted, so that one that runs has a reservation or is a best-effort one
+  turn-of : T threads → s .running < 64 → T (runnableAt s (s .running)) → T (turnOk (s .time) (threadAt s (s .running)))
+  unfolding runnableAt effortAt
+  turn-of z l r =
+      let x : Thread = threadAt s (s .running) in
+      let on : Bool = eqb (x .tag) (s .time) in
+      let itself : Bool = eqb (s .running) (s .running) in
+      let e : x .status ≡ 1 = eqb→eq (x .status) 1 r in
+      both (isRunnable x) (hasReservation x || on) r
+      (by (λ b. hasReservation x ≡ b → T (b || on)) (hasReservation x)
+      (λ h _. tt)
+      (λ h _.
+      let k = timed-of s (s .running) (everyBelow-at (threadOk s) 64 z (s .running) l) in
+      implied itself on (implied (effortAt s (s .running)) (not itself || on) k (holds (effortAt s (s .running)) (rw (e, h))))
+      (holds itself (eq-eqb (s .running) (s .running) refl)))
+      refl)
+
+  runs-of : T threads → T (runningOk s) → Runs
   unfolding runningOk
-  runs-of z =
+  runs-of t z =
       cases idle
       (λ e. record {
         number = le→leb (s .running) 64 (omega (arith, eqb-true (s .running) 64 e));
@@ -125,10 +125,11 @@ module _ (s : Scheduler) where
       let m : Bool = ltb (s .meter) meterLimit in
       let all : T (n && a && r && m) = subst (λ (b : Bool). T (b || (n && a && r && m))) e z in
       let front = and-l (n && a && r) m all in
+      let below : s .running < 64 = ltb→lt (s .running) 64 (and-l n a (and-l (n && a) r front)) in
       record {
-        number = le→leb (s .running) 64 (omega (arith, ltb→lt (s .running) 64 (and-l n a (and-l (n && a) r front))));
+        number = le→leb (s .running) 64 (omega arith);
         early = or-right idle m (and-r (n && a && r) m all);
-        runnable = or-right idle r (and-r (n && a) r front);
+        runnable = or-right idle (turnOk (s .time) (threadAt s (s .running))) (turn-of t below (and-r (n && a) r front));
       })
 
   running-of : Runs → T (runningOk s)
@@ -138,10 +139,29 @@ module _ (s : Scheduler) where
       (λ e. tt)
       (λ e.
       let m : Bool = ltb (s .meter) meterLimit in
-      let one : T (runnableAt s (s .running)) = subst (λ (b : Bool). T (b || runnableAt s (s .running))) e (k .runnable) in
-      let status : (threadAt s (s .running)) .status ≡ 1 = eqb→eq ((threadAt s (s .running)) .status) 1 one in
+      let x : Thread = threadAt s (s .running) in
+      let turn : T (turnOk (s .time) x) = subst (λ (b : Bool). T (b || turnOk (s .time) x)) e (k .runnable) in
+      let status : x .status ≡ 1 = eqb→eq (x .status) 1 (and-l (isRunnable x) (hasReservation x || eqb (x .tag) (s .time)) turn) in
       let below : s .running < 64 = omega (arith, leb→le (s .running) 64 (k .number), eqb-false (s .running) 64 e) in
       rw (lt-ltb (s .running) 64 below, status) (subst (λ (b : Bool). T (b || m)) e (k .early)))
+
+  -- and the tag of a best-effort thread that runs
+  times-of : T runs → (n : ℕ) → n < 64 → T (timed s n)
+  unfolding effortAt
+  times-of k n l =
+      let x : Thread = threadAt s n in
+      let on : Bool = eqb (x .tag) (s .time) in
+      implies (effortAt s n) (not (eqb (s .running) n) || on) (λ u.
+      implies (eqb (s .running) n) on (λ v.
+      let e : s .running ≡ n = eqb→eq (s .running) n v in
+      let turn = subst (λ (b : Bool). T (b || turnOk (s .time) (threadAt s (s .running)))) (ne-eqb (s .running) 64 (λ z. omega arith)) k in
+      other (hasReservation x) on
+      (and-r (isRunnable x) (hasReservation x || on) (subst (λ (j : ℕ). T (turnOk (s .time) (threadAt s j))) e turn))
+      (and-r (isAdmitted x) (not (hasReservation x)) u)))
+    where
+      other : (a b : Bool) → T (a || b) → T (not a) → T b
+      other true b t u = absurd u
+      other false b t u = t
 
   -- the whole
 
@@ -167,7 +187,7 @@ module _ (s : Scheduler) where
       let y = and-l (rest && most) timed z in
       let q = out (shapeOk s) (settingsOk (s .settings)) (groupsOk s) threads list (runningOk s) (and-l rest most y) in
       let all = and-r few held (and-l (few && held) once (q .4)) in
-      let k = runs-of (q .5) in
+      let k = runs-of (q .3) (q .5) in
       record {
         settings = is (settingsOk (s .settings)) (q .1);
         meter = is (most && number && early) (both (most && number) early (both most number (and-r rest most y) (k .number)) (k .early));
@@ -200,7 +220,7 @@ module _ (s : Scheduler) where
         h,
         holds (settingsOk (s .settings)) (k .settings),
         holds (groupsOk s) (k .groups),
-        threads-of each,
+        threads-of each (times-of (and-r entries runs turn)),
         both (few && held) once (both few held (le→leb (s .count) 64 (k .few)) (held-of each (and-l low once entry)))
             (and-r low once entry),
         running-of (record {

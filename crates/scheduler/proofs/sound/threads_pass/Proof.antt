@@ -190,7 +190,7 @@ passed-requires-2 c κs = tt
 
 returns-6 : tie.Need-returns-6 Inv-loop μ-loop
 returns-6 c =
-    let i = c .before .before .before in
+    let i = c .before .before .before .before .before in
     let l = i .before in
     inv-run (l .before .loop .inv) (l .loop-test .left) (list (l .before)) (i .if6 .left) (c .passed2 .ensures)
 
