@@ -167,8 +167,8 @@ pub extern "C" fn mtr_by_value_report(state: Scheduler, reason: u64, used: u64) 
 // Changes the reservation of a thread that does not run, in thousandths. The thread keeps its place in the list, and stays blocked if it
 // is; its allotment is cut to the new quantum if it is larger and never raised; its lag is counted afresh from here, and its share goes on.
 // Refused: 16, the state is not sound; 7, the number is above 63, or its thread is not admitted or a best-effort one; 9, the thread is
-// running; 4, the reservation is outside 1 to 1000; 5, the reservation exceeds what the thread's group has free, its old reservation counted
-// as free. The state is then unchanged. Accepted, only the thread's entry changes.
+// running; 4, the reservation is outside 1 to 1000; 5, the reservation exceeds what the thread's group has free, its old reservation
+// counted as free. The state is then unchanged. Accepted, only the thread's entry changes.
 #[no_mangle]
 pub extern "C" fn mtr_by_value_change(state: Scheduler, number: u64, reservation: u64) -> Reply
     ensures { λ r. ⌜ r ≡ replyOut (step (change number reservation) state) ⌝ }

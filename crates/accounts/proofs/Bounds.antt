@@ -52,5 +52,6 @@ allotment-fits s n ok admitted =
     cases (hasReservation t)
     (λ e.
     let f = (k .thread n (admitted-reserved s n admitted e)) .fit in
-    rw e (word-fits (t .allotment) (f .some) (omega (arith, f .bounded, mul-le-mul (f .at-most) ((settings-facts (s .settings) (k .settings)) .1)))))
+    let m = (settings-facts (s .settings) (k .settings)) .1 in
+    rw e (word-fits (t .allotment) (f .some) (omega (arith, f .bounded, mul-le-mul (f .at-most) m))))
     (λ e. rw e (record { sfits = omega arith }))

@@ -1,5 +1,5 @@
-// Start-time fair queueing of best-effort threads over plain numbers: tags, the choice and what soundness asks of a tag. No division rounds:
-// the unit of tags is a multiple of every weight.
+// Start-time fair queueing of best-effort threads over plain numbers: tags, the choice and what soundness asks of a tag. No division
+// rounds: the unit of tags is a multiple of every weight.
 ghost use Prim.Native.Nat.{min};
 ghost use mathlib.Core.Path.{_≡_};
 ghost use mathlib.Core.Bool.{not, _&&_, _||_};

@@ -10,7 +10,8 @@ use Rattle.fair.specs.Tags.{finishTag, startTag, choose, firstOr, counted, time
 use Rattle.base.specs.Lists.{without, first, passed, sumBelow}
 use Rattle.scheduler.specs.declared.Thread.{Thread}
 use Rattle.scheduler.specs.declared.Scheduler.{Scheduler}
-use Rattle.scheduler.specs.State.{noThread, noGroup, stateOf, hasReservation, weightOf, threadAt, runnableAt, effortAt, tagAt, quantum}
+use Rattle.scheduler.specs.State.{noThread, noGroup, stateOf, hasReservation, weightOf, threadAt, runnableAt, effortAt, tagAt}
+use Rattle.scheduler.specs.State.{quantum}
 use Rattle.scheduler.specs.State.{listed, withThread, withGroup, withList, withRun}
 use Rattle.scheduler.specs.Refusals.{Call, openGroup, closeGroup, admit, remove, wake, dispatch, report, change, admitEffort}
 

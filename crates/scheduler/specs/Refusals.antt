@@ -8,7 +8,8 @@ use Rattle.base.specs.Checks.{within, Check, _⇒_, firstOf}
 use Rattle.base.specs.Lists.{everyBelow}
 use Rattle.scheduler.specs.declared.Scheduler.{Scheduler}
 use Rattle.fair.specs.Tags.{weightMost}
-use Rattle.scheduler.specs.State.{groupOf, threadAt, groupAt, admittedAt, reservedAt, blockedAt, reservationAt, openAt, usedMost, meterLimit}
+use Rattle.scheduler.specs.State.{groupOf, threadAt, groupAt, admittedAt, reservedAt, blockedAt, reservationAt, openAt, usedMost}
+use Rattle.scheduler.specs.State.{meterLimit}
 use Rattle.scheduler.specs.Sound.{settingsOk, threadIn, childOf, load, sound}
 
 -- The nine calls of a stretch. Start makes a state of its own.

@@ -9,7 +9,8 @@ use Rattle.base.specs.Lists.{member, distinct, everyOf, everyBelow, sumBelow}
 use Rattle.scheduler.specs.declared.Settings.{Settings}
 use Rattle.scheduler.specs.declared.Thread.{Thread}
 use Rattle.scheduler.specs.declared.Scheduler.{Scheduler}
-use Rattle.scheduler.specs.State.{isRunnable, groupOf, weightOf, limitOf, threadAt, groupAt, admittedAt, runnableAt, reservedAt, effortAt}
+use Rattle.scheduler.specs.State.{isRunnable, groupOf, weightOf, limitOf, threadAt, groupAt, admittedAt, runnableAt, reservedAt}
+use Rattle.scheduler.specs.State.{effortAt}
 use Rattle.scheduler.specs.State.{reservationAt, openAt, listed}
 use Rattle.quota.specs.Quota.{natOf}
 use Rattle.fair.specs.Tags.{tagUnit, tagOk}

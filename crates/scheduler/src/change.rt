@@ -1,5 +1,5 @@
-// Change: another reservation for a reserved thread that does not run. It keeps its place and its status; its allotment is cut to the new quantum
-// and never raised, and its anchor is set.
+// Change: another reservation for a reserved thread that does not run. It keeps its place and its status; its allotment is cut to the new
+// quantum and never raised, and its anchor is set.
 ghost use mathlib.Core.Path.{_≡_};
 ghost use mathlib.Core.Bool.{true, not, cond};
 ghost use Prim.Native.Nat.{_≤_};

@@ -142,7 +142,8 @@ impl Efforts {
     // What a dispatch takes that has passed over this many threads of the list up to the first runnable one, or 64.
     pub(crate) fn choice(self, listed: u32, passed: u32) -> Choice
         requires { ⌜ (passed ≤ 64) × (self .count ≤ 64) ⌝ }
-        ensures { λ r. ⌜ (r .number ≡ firstOr listed (self .best)) × (r .before ≡ counted (firstOr listed (self .best)) passed (self .count)) ⌝ }
+        ensures { λ r. ⌜ (r .number ≡ firstOr listed (self .best))
+            × (r .before ≡ counted (firstOr listed (self .best)) passed (self .count)) ⌝ }
     {
         let number = fair::first_or(listed, self.best);
         let before = fair::counted(number, passed, self.count) as u32;

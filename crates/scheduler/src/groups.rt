@@ -204,7 +204,8 @@ fn open_code(
 
 // The number that closing a group is refused with, or 0. Each thread reserves and each child group takes at least 1.
 fn close_code(ok: bool, groups: [Group; 16], used: u64, number: u64) -> u32
-    ensures { λ r. ⌜ ((s : Scheduler) → ok ≡ sound s → s .groups ≡ groups → (ok ≡ true → number < 16 → used ≡ load s number) → r ≡ refusal (closeGroup number) s) ⌝ }
+    ensures { λ r. ⌜ ((s : Scheduler) → ok ≡ sound s → s .groups ≡ groups → (ok ≡ true → number < 16 → used ≡ load s number) → r
+        ≡ refusal (closeGroup number) s) ⌝ }
 {
     if !ok {
         return refusals::UNSOUND;

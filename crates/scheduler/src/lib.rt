@@ -4,13 +4,14 @@ ghost use Rattle.scheduler.specs.State.{defaultSettings};
 
 pub mod batch;
 pub mod change;
+pub mod dispatch;
 pub mod effort;
 pub mod groups;
 pub mod sound;
 pub mod threads;
 
-// The settings: P, the preemption interval in ticks; m, the ticks per thousandth of the virtual time quantum; O, the ticks that a report may
-// use beyond its slice.
+// The settings: P, the preemption interval in ticks; m, the ticks per thousandth of the virtual time quantum; O, the ticks that a report
+// may use beyond its slice.
 #[repr(C)]
 pub struct Settings {
     pub interval: u32,
@@ -52,8 +53,8 @@ impl Settings {
 
 // A thread. status: 0 free, 1 runnable, 2 blocked. admission and anchor are the meter at admission and at the anchor;
 // ticks and since are the thread's ticks since each. An admitted thread with a reservation is a reserved one: group_or_weight is its group,
-// and in a sound state its allotment is 1 to its quantum. One whose reservation is 0 is a best-effort thread: group_or_weight is its weight, 1
-// to 16, its allotment is not looked at, and tag is its start tag while it is runnable, its last finish tag while it is blocked.
+// and in a sound state its allotment is 1 to its quantum. One whose reservation is 0 is a best-effort thread: group_or_weight is its
+// weight, 1 to 16, its allotment is not looked at, and tag is its start tag while it is runnable, its last finish tag while it is blocked.
 #[repr(C)]
 pub struct Thread {
     pub admission: u64,

@@ -21,7 +21,8 @@ use Rattle.scheduler.specs.declared.Answer.the-variants.{Refused, Idle, 
 use Rattle.scheduler.specs.declared.Answered.{Answered}
 use Rattle.quota.specs.Quota.{natOf}
 use Rattle.fair.specs.Tags.{firstOr, counted, timeAfter}
-use Rattle.scheduler.specs.State.{hasReservation, isEffort, threadAt, admittedAt, runnableAt, reservedAt, effortAt, tagAt, allotmentAt}
+use Rattle.scheduler.specs.State.{hasReservation, isEffort, threadAt, admittedAt, runnableAt, reservedAt, effortAt, tagAt}
+use Rattle.scheduler.specs.State.{allotmentAt}
 use Rattle.scheduler.specs.State.{sliceAt, listed, withRun, meterLimit}
 use Rattle.scheduler.specs.Sound.{sound}
 use Rattle.scheduler.specs.Refusals.{dispatch, checks, refusal}
@@ -92,7 +93,8 @@ module _ (s : Scheduler) (e : refusal dispatch s ≡ 0) where
     small ne =
         dispatch-facts .small x (subst (λ (j : ℕ). T (admittedAt s j)) (sym is) ((chosen-runnable s dispatch-facts (λ z. ne (is ∙ z))) .0))
 
-    timed : (time : ℕ) → time ≡ cond (ltb x 64) (timeAfter (isEffort (threadAt s (x % 64))) ((threadAt s (x % 64)) .tag) (s .time)) (s .time)
+    timed : (time : ℕ)
+        → time ≡ cond (ltb x 64) (timeAfter (isEffort (threadAt s (x % 64))) ((threadAt s (x % 64)) .tag) (s .time)) (s .time)
         → time ≡ timeWith s x
     unfolding timeWith timeAfter effortAt tagAt
     timed time q =
@@ -126,7 +128,8 @@ module _ (s : Scheduler) (e : refusal dispatch s ≡ 0) where
         (timed time qt)
         ∙ cases (eqb x 64)
         (λ z. rw z)
-        (λ z. ap (λ (j : ℕ). answered (cond (eqb x 64) (Idle (passedOver s)) (Run x j (passedOver s))) (withRun s x (s .meter) (timeWith s x)))
+        (λ z. ap
+        (λ (j : ℕ). answered (cond (eqb x 64) (Idle (passedOver s)) (Run x j (passedOver s))) (withRun s x (s .meter) (timeWith s x)))
         (cut slice qs (eqb-false x 64 z)))
         ∙ ap (taking s) is
         ∙ sym replied
@@ -174,7 +177,8 @@ module _ (s : Scheduler) (k : ℕ) (e : k ≡ refusal dispatch s) (count : ℕ) 
       (λ y.
       let l = ltb-true i count y in
       let at : i % 64 ≡ i = omega (arith, look-most) in
-      rw y (ap (λ (j : ℕ). getD (s .order) j 0 % 64) at ∙ rest (getD (s .order) i 0) (look-small i l) ∙ found s r i over (omega (arith, all))))
+      rw y
+      (ap (λ (j : ℕ). getD (s .order) j 0 % 64) at ∙ rest (getD (s .order) i 0) (look-small i l) ∙ found s r i over (omega (arith, all))))
       (λ y. rw y (sym (none s r i over (omega (arith, all, ltb-false i count y)))))
 
   pub dispatch-done : (i : ℕ) → i ≤ count → passed (runnableAt s) (take count (s .order)) ≡ i

@@ -21,7 +21,8 @@ use Rattle.scheduler.specs.declared.Scheduler.{Scheduler}
 use Rattle.scheduler.specs.declared.Answer.{Answer}
 use Rattle.scheduler.specs.declared.Answer.the-variants.{Accepted, Refused, Idle, Run}
 use Rattle.scheduler.specs.declared.Answered.{Answered}
-use Rattle.scheduler.specs.State.{noThread, hasReservation, reservedAt, threadAt, admittedAt, blockedAt, isAdmitted, isBlocked, listed, sliceAt, stateOf}
+use Rattle.scheduler.specs.State.{noThread, hasReservation, reservedAt, threadAt, admittedAt, blockedAt, isAdmitted, isBlocked}
+use Rattle.scheduler.specs.State.{listed, sliceAt, stateOf}
 use Rattle.scheduler.specs.State.{withThread, withList}
 use Rattle.scheduler.specs.Sound.{sound}
 use Rattle.scheduler.specs.Refusals.{Call, wake, remove, admitEffort, checks, refusal, startRefusal}
@@ -258,7 +259,8 @@ module _ (s : Scheduler) (n w : ℕ) where
   unfolding refusal checks firstOf admittedAt
   effort-number ok e k q =
       q
-      ∙ ap (λ (b : Bool). cond (not b) 16 (cond (ltb 63 n) 7 (cond (isAdmitted (threadAt s (n % 64))) 8 (cond (not (within 1 16 w)) 4 0)))) e
+      ∙ ap
+      (λ (b : Bool). cond (not b) 16 (cond (ltb 63 n) 7 (cond (isAdmitted (threadAt s (n % 64))) 8 (cond (not (within 1 16 w)) 4 0)))) e
       ∙ cases (ltb 63 n)
       (λ z. rw z)
       (λ z.

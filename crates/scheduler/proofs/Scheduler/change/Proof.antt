@@ -41,7 +41,8 @@ module _ (c : tie.After-change-code) where
       -- the checks, with the kind as the code finds it
       checked : Bool → ℕ → Bool → ℕ
       checked ok room reserved =
-          firstOf ((not ok ⇒ 16) ∷ (ltb 63 N || not reserved ⇒ 7) ∷ (eqb (S .running) N ⇒ 9) ∷ (not (within 1 1000 F) ⇒ 4) ∷ (ltb room F ⇒ 5) ∷ [])
+          firstOf ((not ok ⇒ 16) ∷ (ltb 63 N || not reserved ⇒ 7) ∷ (eqb (S .running) N ⇒ 9) ∷ (not (within 1 1000 F) ⇒ 4)
+          ∷ (ltb room F ⇒ 5) ∷ [])
 
 tested-requires : tie.Need-tested-requires
 tested-requires c κs = search needs

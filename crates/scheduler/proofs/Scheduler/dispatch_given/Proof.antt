@@ -1,6 +1,6 @@
--- `dispatch_given` meets its contract. The first loop's invariant: what is passed of the whole list is the entries passed so far and what is
--- passed of the rest; it ends at a runnable thread or at the list's end, where nothing is passed of the rest. The second loop's, where no
--- thread of the list was found: what the search among the best-effort threads has found so far.
+-- `dispatch_given` meets its contract. The first loop's invariant: what is passed of the whole list is the entries passed so far and what
+-- is passed of the rest; it ends at a runnable thread or at the list's end, where nothing is passed of the rest. The second loop's, where
+-- no thread of the list was found: what the search among the best-effort threads has found so far.
 use Prim.Native.Nat.{ℕ, _+_, _-_, min, _≤_, _<_}
 use mathlib.Core.Path.{_≡_, sym, ap, subst, _∙_}
 use mathlib.Core.Bool.{cond}

@@ -49,7 +49,8 @@ returns c =
     report-done (S k) (reason k) (used k) (k .report-code .result) (number k) (c .answered .result) (c .answered .ensures)
     (t .reported .result) (t .reported .ensures (S k) (λ z. sym (m .meter-after .ensures ∙ rw z)) refl)
     (v .moves .result) (v .moves .ensures) (q .requeued .result) (q .requeued .ensures)
-    (m .meter-after .result) (m .meter-after .ensures) (y .leaves .result) (y .leaves .ensures) (n .count-after .result) (n .count-after .ensures)
+    (m .meter-after .result) (m .meter-after .ensures) (y .leaves .result) (y .leaves .ensures)
+    (n .count-after .result) (n .count-after .ensures)
     (x .running-after .result) (x .running-after .ensures)
 
 cast-at : tie.Need-cast-at

@@ -12,7 +12,8 @@ none-requires : tie.Need-none-requires
 none-requires c κs = search needs
 
 returns-2 : tie.Need-returns-2
-returns-2 c = λ s e f. simp (not-false (c .before .before .before .args .accepted) (c .before .before .if1 .left), c .before .if2 .taken) (c .none .ensures)
+returns-2 c = λ s e f.
+    simp (not-false (c .before .before .before .args .accepted) (c .before .before .if1 .left), c .before .if2 .taken) (c .none .ensures)
 
 has-reservation-requires : tie.Need-has-reservation-requires
 has-reservation-requires c κs = search needs

@@ -19,13 +19,23 @@ returns-2 : tie.Need-returns-2
 unfolding wokenThread
 returns-2 c = λ s e f.
     let h = c .before in
-    rw (not-false (h .before .before .before .args .accepted) (h .before .before .if1 .left), sym (h .has-reservation .ensures) ∙ c .if2 .taken, e)
+    rw (
+      not-false (h .before .before .before .args .accepted) (h .before .before .if1 .left),
+      sym (h .has-reservation .ensures) ∙ c .if2 .taken,
+      e,
+    )
 
 returns-3 : tie.Need-returns-3
 unfolding wokenThread
 returns-3 c = λ s e f.
     let h = c .before in
-    rw (not-false (h .before .before .before .args .accepted) (h .before .before .if1 .left), sym (h .has-reservation .ensures) ∙ c .if2 .left, h .before .start-tag .ensures, e, f)
+    rw (
+      not-false (h .before .before .before .args .accepted) (h .before .before .if1 .left),
+      sym (h .has-reservation .ensures) ∙ c .if2 .left,
+      h .before .start-tag .ensures,
+      e,
+      f,
+    )
 
 pub woken-spec : {M : Type 1} → statement M
 woken-spec = tie.close (tie.spec returns start-tag-requires has-reservation-requires returns-2 returns-3)
