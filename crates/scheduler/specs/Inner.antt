@@ -14,15 +14,15 @@ use Rattle.quota.specs.Quota.{natOf}
 use Rattle.fair.specs.Tags.{tagUnit, choose, tagOk}
 use Rattle.scheduler.specs.State.{noThread, isAdmitted, isRunnable, hasReservation, isEffort, groupOf, weightOf, limitOf}
 use Rattle.scheduler.specs.State.{threadAt, admittedAt, reservedAt, effortAt, openAt, listed, meterMost, chargeMost}
-use Rattle.scheduler.specs.Sound.{quotaOk, accountOk, reservedIn, sound}
+use Rattle.scheduler.specs.Sound.{quotaOk, accountOk, reservedIn, load, sound}
 use Rattle.scheduler.specs.Effects.{chargedThread, spentThread}
 
 -- the state s with these parts in place of its own
-abbrev pub given : Scheduler → List Thread → List ℕ → List Group → ℕ → ℕ → ℕ → ℕ → ℕ → Scheduler
-given s threads order groups m meter time count running = record {
+abbrev pub given : Scheduler → List Thread → List ℕ → ℕ → ℕ → ℕ → ℕ → ℕ → Scheduler
+given s threads order m meter time count running = record {
   threads = threads;
   order = order;
-  groups = groups;
+  groups = s .groups;
   meter = meter;
   time = time;
   settings = record { interval = s .settings .interval; thousandth = m; overrun = s .settings .overrun };
@@ -31,7 +31,16 @@ given s threads order groups m meter time count running = record {
 }
 
 abbrev pub having : Scheduler → List Group → Scheduler
-having s groups = given s (s .threads) (s .order) groups (s .settings .thousandth) (s .meter) (s .time) (s .count) (s .running)
+having s groups = record {
+  threads = s .threads;
+  order = s .order;
+  groups = groups;
+  meter = s .meter;
+  time = s .time;
+  settings = s .settings;
+  count = s .count;
+  running = s .running;
+}
 
 -- a number in the list: a reserved thread's, whose reservation and allotment, account and group are in order
 abbrev pub listedOk : ℕ → ℕ → Thread → Bool
@@ -109,19 +118,19 @@ pub record ListSeen (l : List ℕ) (ok : Bool) (seen : List Bool) : Type 0 where
   pub test : ok ≡ entriesOk l
   pub marks : ok ≡ true → Marks seen l
 
--- a best-effort thread's weight and tag, those of a running one or not
-abbrev pub tagged : Scheduler → Thread → Bool → Bool
-tagged s t running =
-    tagOk (limitOf (s .settings)) (s .time) (tagUnit * s .meter) (weightOf t) (isRunnable t) running (t .tag)
+-- a best-effort thread's weight and tag, but for what its tag is where it runs
+abbrev pub tagged : Scheduler → Thread → Bool
+tagged s t = tagOk (limitOf (s .settings)) (s .time) (tagUnit * s .meter) (weightOf t) (isRunnable t) false (t .tag)
 
--- thread n passes its test, but for what a running one's tag is, and stands in the list only if it is reserved
+-- thread n passes its test, but for whether its group is open and what its tag is where it runs; it stands in the list only if it is
+-- reserved
 unfoldable pub entryOk : Scheduler → ℕ → Bool
 entryOk s n =
     leb ((threadAt s n) .status) 2
     && (not (reservedAt s n)
-    || (member n (listed s) && quotaOk (s .settings .thousandth) (threadAt s n) && openAt s (groupOf (threadAt s n))))
+    || (member n (listed s) && quotaOk (s .settings .thousandth) (threadAt s n) && ltb (groupOf (threadAt s n)) 16))
     && (not (admittedAt s n) || accountOk (s .meter) (threadAt s n))
-    && (not (effortAt s n) || tagged s (threadAt s n) false)
+    && (not (effortAt s n) || tagged s (threadAt s n))
     && (reservedAt s n || not (member n (listed s)))
 
 -- the running thread is runnable, and a best-effort one's tag is the virtual time
@@ -135,7 +144,7 @@ Sums s used = (g : ℕ) → g < 16 → getD used g 0 ≡ reservedIn s g
 abbrev pub Small : List ℕ → Type 0
 Small used = (g : ℕ) → g < 16 → getD used g 0 ≤ 64000
 
--- each thread passes, and so does the running one
+-- each entry passes, and so does the running thread
 abbrev pub threadsOk : Scheduler → Bool
 threadsOk s = everyBelow (entryOk s) 64 && (eqb (s .running) 64 || turnOk (s .time) (threadAt s (s .running)))
 
@@ -144,6 +153,10 @@ pub record ThreadsPass (s : Scheduler) (ok : Bool) (used : List ℕ) : Type 0 wh
   pub test : ok ≡ (entriesOk (listed s) && threadsOk s)
   pub sums : ok ≡ true → Sums s used
   pub small : ok ≡ true → Small used
+
+-- a group that is not open carries nothing
+abbrev pub closedOk : Scheduler → Bool
+closedOk s = everyBelow (λ g. openAt s g || eqb (load s g) 0) 16
 
 -- the whole test, with the reservations in each group of a sound state
 pub record Tested (s : Scheduler) (ok : Bool) (used : List ℕ) : Type 0 where

@@ -10,7 +10,8 @@ ghost use Rattle.scheduler.specs.declared.Scheduler.{Scheduler};
 ghost use Rattle.quota.specs.Quota.{natOf};
 ghost use Rattle.scheduler.specs.State.{meterLimit, meterMost};
 ghost use Rattle.scheduler.specs.Sound.{settingsOk, accountOk, groupsOk, sound};
-ghost use Rattle.scheduler.specs.Inner.{given, having, listedOk, unlistedOk, Handed, ListSeen, Sums, Small, ThreadsPass, Tested};
+ghost use Rattle.scheduler.specs.Inner.{given, having, listedOk, unlistedOk, closedOk, Handed, ListSeen, Sums, Small, ThreadsPass};
+ghost use Rattle.scheduler.specs.Inner.{Tested};
 use crate::Group;
 use crate::Scheduler;
 use crate::Settings;
@@ -186,7 +187,6 @@ fn passed(used: [u32; 16], ok: bool) -> Pass
 fn threads_pass(
     threads: [Thread; 64],
     order: [u8; 64],
-    groups: [Group; 16],
     m: u32,
     limit: u32,
     meter: u64,
@@ -197,7 +197,7 @@ fn threads_pass(
 ) -> Pass
     requires { ⌜ (m ≤ 1000) × (count ≤ 64) × (running ≤ 64) ⌝ }
     ensures { λ r. ⌜ ((s : Scheduler) → Handed s limit meter most
-        → ThreadsPass (given s threads order groups m meter time count running) (r .ok) (r .used)) ⌝ }
+        → ThreadsPass (given s threads order m meter time count running) (r .ok) (r .used)) ⌝ }
 {
     let list = list_seen(order, count);
     if !list.ok {
@@ -219,10 +219,6 @@ fn threads_pass(
             return failed();
         }
         let g = t.group_or_weight as usize;
-        let opened = groups[g].opened;
-        if opened != 1 {
-            return failed();
-        }
         used[g] = used[g] + t.reservation as u32;
         i += 1;
     }
@@ -235,10 +231,12 @@ fn threads_pass(
     passed(used, ok)
 }
 
-// Parents have lower numbers: counted down, a group's children are added to it before it is tested.
+// Parents have lower numbers: counted down, a group's children are added to it before it is tested. A closed group carries nothing: each
+// reservation is at least 1, so no reserved thread is in it.
 fn groups_ok(groups: [Group; 16], reserved: [u32; 16]) -> bool
     requires { ⌜ Small reserved ⌝ }
-    ensures { λ r. ⌜ ((s : Scheduler) → Sums (having s groups) reserved → r ≡ groupsOk (having s groups)) ⌝ }
+    ensures { λ r. ⌜ ((s : Scheduler) → Sums (having s groups) reserved
+        → r ≡ (groupsOk (having s groups) && closedOk (having s groups))) ⌝ }
 {
     let mut used = reserved;
     let mut i: usize = GROUPS - 1;
@@ -246,6 +244,9 @@ fn groups_ok(groups: [Group; 16], reserved: [u32; 16]) -> bool
         let x = groups[i];
         let opened = x.opened;
         if opened == 0 {
+            if used[i] != 0 {
+                return false;
+            }
             i -= 1;
             continue;
         }
@@ -295,12 +296,10 @@ impl Scheduler {
         }
         let limit = settings.interval + settings.overrun as u32;
         let order = self.order;
-        let groups = self.groups;
         let threads = self.threads;
         let pass = threads_pass(
             threads,
             order,
-            groups,
             settings.thousandth as u32,
             limit,
             meter,
@@ -313,6 +312,7 @@ impl Scheduler {
             return failed();
         }
         let used = pass.used;
+        let groups = self.groups;
         Pass {
             ok: groups_ok(groups, used),
             used: used,

@@ -1,6 +1,6 @@
 -- The pass over the groups, from the highest number down. At group i the ceilings of all groups above i are added to their parents'
 -- sums. A parent has a lower number than its child, so the sum of a group above i is whole and stays; what the sum of any group still
--- lacks are the ceilings of its children up to i. At group 0 nothing is lacking, since group 0 is no child.
+-- lacks are the ceilings of its children up to i. At group 0 nothing is lacking, since group 0 is no child. A closed group's sum is 0.
 use Prim.Native.Nat.{ℕ, _+_, _*_, _-_, _≤_, _<_}
 use mathlib.Core.Path.{_≡_, refl, sym, ap, subst}
 use mathlib.Core.List.{List}
@@ -14,14 +14,18 @@ use mir.Val.{Fits}
 use borrow.Author.Tests.{lt-ltb, le-leb, eq-eqb, ne-eqb, eqb-true, eqb-false}
 use Rattle.base.specs.Checks.{within}
 use Rattle.base.specs.Lists.{everyBelow, sumBelow}
-use Rattle.base.proofs.Bools.{by, cases, and-l, and-r, both, is, holds, clash, implied, or-true}
+use Rattle.base.proofs.Bools.{by, cases, and-l, and-r, both, is, holds, clash, implied, or-true, or-right}
 use Rattle.base.proofs.Sums.{everyBelow-at, everyBelow-of, sum-more}
 use Rattle.scheduler.specs.declared.Group.{Group}
 use Rattle.scheduler.specs.declared.Scheduler.{Scheduler}
 use Rattle.scheduler.specs.State.{noGroup, groupAt, openAt}
 use Rattle.scheduler.specs.Sound.{childOf, ceilingsIn, load, groupOk, groupsOk}
-use Rattle.scheduler.specs.Inner.{having, Sums, Small}
+use Rattle.scheduler.specs.Inner.{having, Sums, Small, closedOk}
 use Rattle.scheduler.proofs.sound.Laws.{same, bump, Sized, sized-more, sized-add}
+
+or-left : (a b : Bool) → T a → T (a || b)
+or-left true b t = tt
+or-left false b t = absurd t
 
 -- the rule of group g with u for its load
 unfoldable pub groupWith : Scheduler → ℕ → ℕ → Bool
@@ -89,10 +93,15 @@ child s g c = cond (childOf s g c) ((groupAt s c) .ceiling) 0
 pub record GroupsTo (s : Scheduler) (i : ℕ) (used : List ℕ) : Type 0 where
   pub sums : (g : ℕ) → g < 16 → getD used g 0 + sumBelow (child s g) (i + 1) ≡ load s g
   pub fine : (g : ℕ) → i < g → g < 16 → T (groupWith s (getD used g 0) g)
+  pub empty : (g : ℕ) → i < g → g < 16 → T (openAt s g || eqb (getD used g 0) 0)
 
 pub groups-none : (s : Scheduler) (used : List ℕ) → Sums s used → GroupsTo s 15 used
 unfolding load ceilingsIn child
-groups-none s used e = record { sums = λ g l. ap (λ (z : ℕ). z + ceilingsIn s g) (e g l); fine = λ g l h. absurd (omega arith) }
+groups-none s used e = record {
+  sums = λ g l. ap (λ (z : ℕ). z + ceilingsIn s g) (e g l);
+  fine = λ g l h. absurd (omega arith);
+  empty = λ g l h. absurd (omega arith);
+}
 
 module _ (s : Scheduler) (i : ℕ) (used : List ℕ) (t : GroupsTo s i used) (h : i < 16) (pos : 0 < i) where
   back : i - 1 + 1 ≡ i
@@ -115,10 +124,12 @@ module _ (s : Scheduler) (i : ℕ) (used : List ℕ) (t : GroupsTo s i used) (h 
   above P f here g l m =
       cases (eqb g i) (λ e. subst P (sym (eqb-true g i e)) here) (λ e. f g (omega (arith, eqb-false g i e)) m)
 
-  pub groups-skip : (groupAt s i) .opened ≡ 0 → GroupsTo s (i - 1) used
-  groups-skip o = record {
+  pub groups-skip : (groupAt s i) .opened ≡ 0 → getD used i 0 ≡ 0 → GroupsTo s (i - 1) used
+  groups-skip o z = record {
     sums = λ g l. omega (arith, t .sums g l, sum-more (child s g) i, closed-child o g, ap (sumBelow (child s g)) back);
     fine = above (λ g. T (groupWith s (getD used g 0) g)) (t .fine) (closed-passes o (getD used i 0));
+    empty = above (λ g. T (openAt s g || eqb (getD used g 0) 0)) (t .empty)
+        (or-right (openAt s i) (eqb (getD used i 0) 0) (holds (eqb (getD used i 0) 0) (eq-eqb (getD used i 0) 0 z)));
   }
 
   pub groups-add : length used ≡ 16 → (groupAt s i) .opened ≡ 1 → Child (s .groups) (getD used i 0) i
@@ -142,16 +153,34 @@ module _ (s : Scheduler) (i : ℕ) (used : List ℕ) (t : GroupsTo s i used) (h 
         fine = above (λ g. T (groupWith s (getD after g 0) g))
             (λ g l m. subst (λ (u : ℕ). T (groupWith s u g)) (kept g (omega arith)) (t .fine g l m))
             (subst (λ (u : ℕ). T (groupWith s u i)) (kept i (omega arith)) (child-passes s (getD used i 0) i h o k));
+        empty = above (λ g. T (openAt s g || eqb (getD after g 0) 0))
+            (λ g l m. subst (λ (u : ℕ). T (openAt s g || eqb u 0)) (kept g (omega arith)) (t .empty g l m))
+            (or-left (openAt s i) (eqb (getD after i 0) 0) (is-open s (getD used i 0) i h o));
       }
+
+-- the groups' test
+abbrev pub tested : Scheduler → Bool
+tested s = groupsOk s && closedOk s
 
 -- A group that breaks its rule, and what the rule says.
 module _ (s : Scheduler) (i : ℕ) (h : i < 16) where
-  pub groups-fail : (T (groupOk s i) → ⊥) → false ≡ groupsOk s
+  pub groups-fail : (T (groupOk s i) → ⊥) → false ≡ tested s
   unfolding groupsOk
   groups-fail f =
-      same false (groupsOk s) (λ z. absurd z)
-      (λ z. absurd (f (everyBelow-at (groupOk s) 16 (and-r (openAt s 0 && eqb ((groupAt s 0) .ceiling) 1000) (everyBelow (groupOk s) 16) z)
-      i h)))
+      same false (tested s) (λ z. absurd z)
+      (λ z. absurd (f (everyBelow-at (groupOk s) 16 (and-r (openAt s 0 && eqb ((groupAt s 0) .ceiling) 1000) (everyBelow (groupOk s) 16)
+      (and-l (groupsOk s) (closedOk s) z)) i h)))
+
+  -- a closed group that carries something
+  pub closed-fail : (groupAt s i) .opened ≡ 0 → (load s i ≡ 0 → ⊥) → false ≡ tested s
+  unfolding openAt
+  closed-fail o n =
+      same false (tested s) (λ z. absurd z)
+      (λ z.
+      let all = everyBelow-at (λ g. openAt s g || eqb (load s g) 0) 16 (and-r (groupsOk s) (closedOk s) z) i h in
+      let off : openAt s i ≡ false = rw (o, lt-ltb i 16 h) in
+      let here : T (eqb (load s i) 0) = subst (λ (b : Bool). T (b || eqb (load s i) 0)) off all in
+      absurd (n (eqb→eq (load s i) 0 here)))
 
   pub opened-most : T (groupOk s i) → (groupAt s i) .opened ≤ 1
   unfolding groupOk
@@ -183,15 +212,16 @@ module _ (s : Scheduler) (used : List ℕ) (t : GroupsTo s 0 used) where
       (and-r rest room (implied (openAt s 0) (rest && room) (and-r (leb ((groupAt s 0) .opened) 1) (not (openAt s 0) || (rest && room)) z)
       o))
 
-  pub groups-end : (eqb ((groupAt s 0) .opened) 1 && eqb ((groupAt s 0) .ceiling) 1000 && leb (getD used 0 0) 1000) ≡ groupsOk s
+  pub groups-end : (eqb ((groupAt s 0) .opened) 1 && eqb ((groupAt s 0) .ceiling) 1000 && leb (getD used 0 0) 1000) ≡ tested s
   unfolding groupsOk groupOk groupWith openAt within
   groups-end =
       let o : Bool = eqb ((groupAt s 0) .opened) 1 in
       let e : Bool = eqb ((groupAt s 0) .ceiling) 1000 in
       let r : Bool = leb (getD used 0 0) 1000 in
-      same (o && e && r) (groupsOk s)
+      same (o && e && r) (tested s)
       (λ z.
-      both (o && e) (everyBelow (groupOk s) 16) (and-l (o && e) r z)
+      both (groupsOk s) (closedOk s)
+      (both (o && e) (everyBelow (groupOk s) 16) (and-l (o && e) r z)
       (everyBelow-of (groupOk s) 16 (λ g l.
       cases (eqb g 0)
       (λ q.
@@ -201,9 +231,16 @@ module _ (s : Scheduler) (used : List ℕ) (t : GroupsTo s 0 used) where
       (eqb→eq ((groupAt s 0) .ceiling) 1000 (and-r o e (and-l (o && e) r z)))
       (omega (arith, whole 0 (omega arith), leb→le (getD used 0 0) 1000 (and-r (o && e) r z)))))
       (λ q. subst (λ (u : ℕ). T (groupWith s u g)) (whole g l) (t .fine g (omega (arith, eqb-false g 0 q)) l)))))
+      (everyBelow-of (λ g. openAt s g || eqb (load s g) 0) 16 (λ g l.
+      cases (eqb g 0)
+      (λ q.
+      subst (λ (n : ℕ). T (openAt s n || eqb (load s n) 0)) (sym (eqb-true g 0 q))
+      (or-left (openAt s 0) (eqb (load s 0) 0) (and-l o e (and-l (o && e) r z))))
+      (λ q. subst (λ (u : ℕ). T (openAt s g || eqb u 0)) (whole g l) (t .empty g (omega (arith, eqb-false g 0 q)) l)))))
       (λ z.
-      let front = and-l (o && e) (everyBelow (groupOk s) 16) z in
-      let rule = everyBelow-at (groupOk s) 16 (and-r (o && e) (everyBelow (groupOk s) 16) z) 0 (omega arith) in
+      let y = and-l (groupsOk s) (closedOk s) z in
+      let front = and-l (o && e) (everyBelow (groupOk s) 16) y in
+      let rule = everyBelow-at (groupOk s) 16 (and-r (o && e) (everyBelow (groupOk s) 16) y) 0 (omega arith) in
       both (o && e) r front (le→leb (getD used 0 0) 1000
       (omega (arith, whole 0 (omega arith), root-room (and-l o e front) rule, eqb→eq ((groupAt s 0) .ceiling) 1000 (and-r o e front)))))
 
@@ -215,7 +252,7 @@ pub record GroupsInv (groups : List Group) (reserved : List ℕ) (i : ℕ) (used
 
 -- what is to be shown of a result
 abbrev pub Answers : List Group → List ℕ → Bool → Type 0
-Answers groups reserved b = (s : Scheduler) → Sums (having s groups) reserved → b ≡ groupsOk (having s groups)
+Answers groups reserved b = (s : Scheduler) → Sums (having s groups) reserved → b ≡ tested (having s groups)
 
 -- the test of an open group but group 0, given its parent's flag
 abbrev pub childOk : Group → ℕ → ℕ → Bool
@@ -232,12 +269,15 @@ module _ {groups : List Group} {reserved : List ℕ} {i : ℕ} {used : List ℕ}
   pub low : i < 16
   low = omega (arith, k .most)
 
-  pub inv-skip : (getD groups i noGroup) .opened ≡ 0 → GroupsInv groups reserved (i - 1) used
-  inv-skip o = record {
+  pub inv-skip : (getD groups i noGroup) .opened ≡ 0 → getD used i 0 ≡ 0 → GroupsInv groups reserved (i - 1) used
+  inv-skip o z = record {
     most = omega (arith, k .most);
     sized = sized-more (79000 - 1000 * i) (79000 - 1000 * (i - 1)) used (k .sized) (omega arith);
-    to = λ s q. groups-skip (having s groups) i used (k .to s q) low pos o;
+    to = λ s q. groups-skip (having s groups) i used (k .to s q) low pos o z;
   }
+
+  pub inv-used : (getD groups i noGroup) .opened ≡ 0 → (getD used i 0 ≡ 0 → ⊥) → Answers groups reserved false
+  inv-used o n s q = closed-fail (having s groups) i low o (λ z. n (omega (arith, k .to s q .sums i low)))
 
   -- an open group's rule, against the sum so far
   rule : (s : Scheduler) → Sums (having s groups) reserved → ((getD groups i noGroup) .opened ≡ 0 → ⊥) → T (groupOk (having s groups) i)

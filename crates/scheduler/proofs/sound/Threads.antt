@@ -9,18 +9,17 @@ use native.Mathlib.Omega.{arith}
 use lib.ListN.{length, getD, set, take, replicate, getD-replicate}
 use mir.Syntax.{w32}
 use mir.Val.{Fits}
-use lib.Dec.{T, ltb, leb, eqb, leb→le, ltb→lt, eqb→eq}
+use lib.Dec.{T, ltb, leb, eqb, leb→le, ltb→lt}
 use borrow.Author.Count.{below-none, below-more}
 use borrow.Author.Tests.{lt-ltb, ltb-true, ltb-false, le-leb, eq-eqb, ne-eqb, not-true}
 use Rattle.base.specs.Checks.{within}
 use Rattle.base.specs.Lists.{member, everyBelow, sumBelow}
-use Rattle.base.proofs.Bools.{by, cases, and-l, and-r, both, is, holds, clash}
+use Rattle.base.proofs.Bools.{by, cases, and-l, and-r, is, holds, clash}
 use Rattle.base.proofs.Sums.{everyBelow-at, everyBelow-of, sum-more}
 use Rattle.scheduler.specs.declared.Thread.{Thread}
-use Rattle.scheduler.specs.declared.Group.{Group}
 use Rattle.scheduler.specs.declared.Scheduler.{Scheduler}
-use Rattle.scheduler.specs.State.{noThread, noGroup, isAdmitted, hasReservation, isReserved, groupOf, limitOf, threadAt, groupAt}
-use Rattle.scheduler.specs.State.{admittedAt, reservedAt, effortAt, reservationAt, openAt}
+use Rattle.scheduler.specs.State.{noThread, isAdmitted, hasReservation, isReserved, groupOf, limitOf, threadAt}
+use Rattle.scheduler.specs.State.{admittedAt, reservedAt, effortAt, reservationAt}
 use Rattle.quota.specs.Quota.{natOf}
 use Rattle.fair.specs.Tags.{tagUnit}
 use Rattle.scheduler.specs.State.{listed}
@@ -85,21 +84,19 @@ outside false true false q o c f z = refl
 outside false false true q o c f z = absurd (false≢true (z refl))
 outside false false false q o c f z = absurd (false≢true (z refl))
 
-inside : (v a h q l p c f : Bool) → (q ≡ true → h ≡ true)
-    → (v && (not (a && h) || (true && q && (l && p))) && (not a || c) && (not (a && not h) || f) && ((a && h) || not true))
-    ≡ (a && v && (q && (c && l)) && p)
-inside true true true true true true true f z = refl
-inside true true true true true true false f z = refl
-inside true true true true true false true f z = refl
-inside true true true true true false false f z = refl
-inside true true true true false p true f z = refl
-inside true true true true false p false f z = refl
-inside true true true false l p c f z = refl
-inside true true false true l p c f z = absurd (false≢true (z refl))
-inside true true false false l p c f z = and-false (c && f)
-inside true false h q l p c f z = refl
-inside false true h q l p c f z = refl
-inside false false h q l p c f z = refl
+inside : (v a h q l c f : Bool) → (q ≡ true → h ≡ true)
+    → (v && (not (a && h) || (true && q && l)) && (not a || c) && (not (a && not h) || f) && ((a && h) || not true))
+    ≡ (a && v && (q && (c && l)))
+inside true true true true true true f z = refl
+inside true true true true true false f z = refl
+inside true true true true false true f z = refl
+inside true true true true false false f z = refl
+inside true true true false l c f z = refl
+inside true true false true l c f z = absurd (false≢true (z refl))
+inside true true false false l c f z = and-false (c && f)
+inside true false h q l c f z = refl
+inside false true h q l c f z = refl
+inside false false h q l c f z = refl
 
 module _ (s : Scheduler) (n : ℕ) where
   pub unlisted-test : member n (listed s) ≡ false
@@ -108,8 +105,8 @@ module _ (s : Scheduler) (n : ℕ) where
   unlisted-test e =
       let t = threadAt s n in
       rw (e, none-above (t .status), none-above (t .reservation))
-      (sym (outside (leb (t .status) 2) (isAdmitted t) (hasReservation t) (quotaOk (s .settings .thousandth) t) (openAt s (groupOf t))
-      (accountOk (s .meter) t) (tagged s t false) (λ z. le-leb (t .status) 2 (omega (arith, ltb-false 0 (t .status) z)))))
+      (sym (outside (leb (t .status) 2) (isAdmitted t) (hasReservation t) (quotaOk (s .settings .thousandth) t) (ltb (groupOf t) 16)
+      (accountOk (s .meter) t) (tagged s t) (λ z. le-leb (t .status) 2 (omega (arith, ltb-false 0 (t .status) z)))))
 
   -- and then it is no reserved thread
   pub unlisted-free : member n (listed s) ≡ false → T (entryOk s n) → reservedAt s n ≡ false
@@ -119,7 +116,7 @@ module _ (s : Scheduler) (n : ℕ) where
       (λ r _.
       let off : entryOk s n ≡ false =
       rw (r, e) (fails (leb ((threadAt s n) .status) 2) (not (admittedAt s n) || accountOk (s .meter) (threadAt s n))
-      (not (effortAt s n) || tagged s (threadAt s n) false)) in
+      (not (effortAt s n) || tagged s (threadAt s n))) in
       absurd (subst T off z))
       (λ _ _. refl)
       refl
@@ -128,15 +125,14 @@ module _ (s : Scheduler) (n : ℕ) where
       fails true p q = refl
       fails false p q = refl
 
-  pub listed-test : member n (listed s) ≡ true
-      → (listedOk (s .settings .thousandth) (s .meter) (threadAt s n) && eqb ((groupAt s (groupOf (threadAt s n))) .opened) 1) ≡ entryOk s n
-  unfolding entryOk admittedAt reservedAt effortAt openAt
+  pub listed-test : member n (listed s) ≡ true → listedOk (s .settings .thousandth) (s .meter) (threadAt s n) ≡ entryOk s n
+  unfolding entryOk admittedAt reservedAt effortAt
   listed-test e =
       let t = threadAt s n in
       let m = s .settings .thousandth in
       rw e
-      (sym (inside (leb (t .status) 2) (isAdmitted t) (hasReservation t) (quotaOk m t) (ltb (groupOf t) 16)
-      (eqb ((groupAt s (groupOf t)) .opened) 1) (accountOk (s .meter) t) (tagged s t false) (quota-has m t)))
+      (sym (inside (leb (t .status) 2) (isAdmitted t) (hasReservation t) (quotaOk m t) (ltb (groupOf t) 16) (accountOk (s .meter) t)
+      (tagged s t) (quota-has m t)))
 
 -- the reservation of thread n in group g
 unfoldable pub part : Scheduler → ℕ → ℕ → ℕ
@@ -211,45 +207,45 @@ pub listed-of : (count : ℕ) (order : List ℕ) {b : Bool} {seen : List Bool} �
 listed-of count order {b} {seen} k e = record { pass = subst (λ (z : Bool). ListSeen (take count order) z seen) e k }
 
 -- The loop's invariant: the sums are bounded, and `ThreadsTo` holds of each state with these parts.
-pub record ThreadsInv (threads : List Thread) (groups : List Group) (seen : List Bool) (m limit meter time most count running i : ℕ)
+pub record ThreadsInv (threads : List Thread) (seen : List Bool) (m limit meter time most count running i : ℕ)
     (used : List ℕ) : Type 0 where
   pub within-64 : i ≤ 64
   pub sized : Sized (1000 * i) used
   pub to : {order : List ℕ} → Listed count order seen → (s : Scheduler) → Handed s limit meter most
-      → ThreadsTo (given s threads order groups m meter time count running) i used
+      → ThreadsTo (given s threads order m meter time count running) i used
 
 -- what is to be shown of a result
-abbrev pub Answers : List Thread → List ℕ → List Group → ℕ → ℕ → ℕ → ℕ → ℕ → ℕ → ℕ → Bool → List ℕ → Type 0
-Answers threads order groups m limit meter time most count running ok used =
-    (s : Scheduler) → Handed s limit meter most → ThreadsPass (given s threads order groups m meter time count running) ok used
+abbrev pub Answers : List Thread → List ℕ → ℕ → ℕ → ℕ → ℕ → ℕ → ℕ → ℕ → Bool → List ℕ → Type 0
+Answers threads order m limit meter time most count running ok used =
+    (s : Scheduler) → Handed s limit meter most → ThreadsPass (given s threads order m meter time count running) ok used
 
-pub inv-none : {threads : List Thread} {groups : List Group} {seen : List Bool} {m limit meter time most count running : ℕ}
-    → ThreadsInv threads groups seen m limit meter time most count running 0 (replicate 16 0)
-inv-none {threads} {groups} {seen} {m} {limit} {meter} {time} {most} {count} {running} = record {
+pub inv-none : {threads : List Thread} {seen : List Bool} {m limit meter time most count running : ℕ}
+    → ThreadsInv threads seen m limit meter time most count running 0 (replicate 16 0)
+inv-none {threads} {seen} {m} {limit} {meter} {time} {most} {count} {running} = record {
   within-64 = omega arith;
   sized = sized-none;
-  to = λ {order} l s q. threads-none (given s threads order groups m meter time count running);
+  to = λ {order} l s q. threads-none (given s threads order m meter time count running);
 }
 
 -- a list that is not in order
-pub inv-list : {threads : List Thread} (order : List ℕ) {groups : List Group} {seen : List Bool} {m limit meter time most count running : ℕ}
+pub inv-list : {threads : List Thread} (order : List ℕ) {seen : List Bool} {m limit meter time most count running : ℕ}
     {b : Bool} → ListSeen (take count order) b seen → not b ≡ true → {ok : Bool} {after : List ℕ} → ok ≡ false
-    → Answers threads order groups m limit meter time most count running ok after
+    → Answers threads order m limit meter time most count running ok after
 unfolding listed
-inv-list {threads} order {groups} {seen} {m} {limit} {meter} {time} {most} {count} {running} {b} l n {ok} {after} f s q =
-    let x : Scheduler = given s threads order groups m meter time count running in
+inv-list {threads} order {seen} {m} {limit} {meter} {time} {most} {count} {running} {b} l n {ok} {after} f s q =
+    let x : Scheduler = given s threads order m meter time count running in
     let low : Bool = entriesOk (take count order) in
     unpassed x (λ z. clash b (l .test ∙ is low (and-l low (threadsOk x) z)) (not-true b n)) ok after f
 
-module _ {threads : List Thread} {groups : List Group} {seen : List Bool} {m limit meter time most count running i : ℕ} {used : List ℕ}
-    (k : ThreadsInv threads groups seen m limit meter time most count running i used) (more : i < 64) where
+module _ {threads : List Thread} {seen : List Bool} {m limit meter time most count running i : ℕ} {used : List ℕ}
+    (k : ThreadsInv threads seen m limit meter time most count running i used) (more : i < 64) where
   abbrev t : Thread
   t = getD threads i noThread
 
   -- a state with these parts
   module _ {order : List ℕ} (l : Listed count order seen) (s : Scheduler) (q : Handed s limit meter most) where
     abbrev state : Scheduler
-    state = given s threads order groups m meter time count running
+    state = given s threads order m meter time count running
 
     -- whether number i stands in its list
     place : {b : Bool} → getD seen i false ≡ b → member i (listed state) ≡ b
@@ -263,14 +259,14 @@ module _ {threads : List Thread} {groups : List Group} {seen : List Bool} {m lim
         (subst (λ (n : ℕ). unlistedOk (limitOf (s .settings)) meter time n t ≡ entryOk state i) (q .bounded)
         (unlisted-test state i (place e)))
 
-    inlist : getD seen i false ≡ true → (listedOk m meter t && eqb ((getD groups (groupOf t) noGroup) .opened) 1) ≡ entryOk state i
+    inlist : getD seen i false ≡ true → listedOk m meter t ≡ entryOk state i
     inlist e = listed-test state i (place e)
 
     fail : (T (entryOk state i) → ⊥) → {ok : Bool} {after : List ℕ} → ok ≡ false → ThreadsPass state ok after
     fail g {ok} {after} = threads-fail state i more g ok after
 
   module _ (e : getD seen i false ≡ false) {b : Bool} (test : b ≡ unlistedOk limit meter time most t) where
-    pub inv-skip : b ≡ true → ThreadsInv threads groups seen m limit meter time most count running (i + 1) used
+    pub inv-skip : b ≡ true → ThreadsInv threads seen m limit meter time most count running (i + 1) used
     inv-skip f = record {
       within-64 = omega arith;
       sized = sized-more (1000 * i) (1000 * (i + 1)) used (k .sized) (omega arith);
@@ -280,58 +276,47 @@ module _ {threads : List Thread} {groups : List Group} {seen : List Bool} {m lim
     }
 
     pub inv-stray : not b ≡ true → {order : List ℕ} → Listed count order seen → {ok : Bool} {after : List ℕ} → ok ≡ false
-        → Answers threads order groups m limit meter time most count running ok after
+        → Answers threads order m limit meter time most count running ok after
     inv-stray n l f s q =
         fail l s q (λ z. clash b (test ∙ unlisted l s q e ∙ is (entryOk (state l s q) i) z) (not-true b n)) f
 
   module _ (e : getD seen i false ≡ true) {b : Bool} (test : b ≡ listedOk m meter t) where
     pub inv-bad : not b ≡ true → {order : List ℕ} → Listed count order seen → {ok : Bool} {after : List ℕ} → ok ≡ false
-        → Answers threads order groups m limit meter time most count running ok after
-    inv-bad n l f s q =
-        let p : Bool = eqb ((getD groups (groupOf t) noGroup) .opened) 1 in
-        let r : Bool = listedOk m meter t in
-        fail l s q (λ z. clash b (test ∙ is r (and-l r p (subst T (sym (inlist l s q e)) z))) (not-true b n)) f
+        → Answers threads order m limit meter time most count running ok after
+    inv-bad n l f s q = fail l s q (λ z. clash b (test ∙ inlist l s q e ∙ is (entryOk (state l s q) i) z) (not-true b n)) f
 
-    pub inv-home : ((getD groups (groupOf t) noGroup) .opened ≡ 1 → ⊥) → {order : List ℕ} → Listed count order seen
-        → {ok : Bool} {after : List ℕ} → ok ≡ false → Answers threads order groups m limit meter time most count running ok after
-    inv-home n l f s q =
-        let o : ℕ = (getD groups (groupOf t) noGroup) .opened in
-        fail l s q (λ z. n (eqb→eq o 1 (and-r (listedOk m meter t) (eqb o 1) (subst T (sym (inlist l s q e)) z)))) f
-
-    module _ (fit : b ≡ true) (home : (getD groups (groupOf t) noGroup) .opened ≡ 1) where
+    module _ (fit : b ≡ true) where
       numbers : Numbers t
       numbers = numbers-of m meter t (sym test ∙ fit)
 
-      passes : T (listedOk m meter t && eqb ((getD groups (groupOf t) noGroup) .opened) 1)
-      passes =
-          let o : ℕ = (getD groups (groupOf t) noGroup) .opened in
-          both (listedOk m meter t) (eqb o 1) (holds (listedOk m meter t) (sym test ∙ fit)) (holds (eqb o 1) (eq-eqb o 1 home))
+      passes : {order : List ℕ} (l : Listed count order seen) (s : Scheduler) (q : Handed s limit meter most) → T (entryOk (state l s q) i)
+      passes l s q = holds (entryOk (state l s q) i) (sym (inlist l s q e) ∙ sym test ∙ fit)
 
       pub sum-fits : Fits w32 (getD used (groupOf t) 0 + t .reservation)
       sum-fits = omega (arith, k .sized .small (groupOf t) (numbers .low), numbers .least)
 
-      pub inv-add : ThreadsInv threads groups seen m limit meter time most count running (i + 1)
+      pub inv-add : ThreadsInv threads seen m limit meter time most count running (i + 1)
           (set used (groupOf t) (getD used (groupOf t) 0 + t .reservation))
       inv-add = record {
         within-64 = omega arith;
         sized =
             sized-add (1000 * i) (1000 * (i + 1)) used (k .sized) (groupOf t) (t .reservation) (numbers .low)
             (omega (arith, numbers .least));
-        to = λ l s q. threads-add (state l s q) i used (k .to l s q) (k .sized .size) (subst T (inlist l s q e) passes) numbers;
+        to = λ l s q. threads-add (state l s q) i used (k .to l s q) (k .sized .size) (passes l s q) numbers;
       }
 
 -- all threads pass
-module _ {threads : List Thread} {groups : List Group} {seen : List Bool} {m limit meter time most count running i : ℕ} {used : List ℕ}
-    (k : ThreadsInv threads groups seen m limit meter time most count running i used) (done : 64 ≤ i) {order : List ℕ}
+module _ {threads : List Thread} {seen : List Bool} {m limit meter time most count running i : ℕ} {used : List ℕ}
+    (k : ThreadsInv threads seen m limit meter time most count running i used) (done : 64 ≤ i) {order : List ℕ}
     (l : Listed count order seen) where
   abbrev result : Bool → List ℕ → Type 0
-  result ok after = Answers threads order groups m limit meter time most count running ok after
+  result ok after = Answers threads order m limit meter time most count running ok after
 
   ended : (ok : Bool) → ok ≡ (eqb running 64 || turnOk time (getD threads running noThread)) → result ok used
   unfolding listed
   ended ok e s q =
       let z : i ≡ 64 = omega (arith, k .within-64) in
-      let x : Scheduler = given s threads order groups m meter time count running in
+      let x : Scheduler = given s threads order m meter time count running in
       threads-end x used (sym (l .pass .test)) (subst (λ (j : ℕ). ThreadsTo x j used) z (k .to l s q))
       (λ g h. omega (arith, k .sized .small g h)) ok e
 
@@ -340,11 +325,11 @@ module _ {threads : List Thread} {groups : List Group} {seen : List Bool} {m lim
     equal : (b : Bool) → (ok ≡ b) × (after ≡ used) → result b used → result ok after
     equal b e a = subst (λ (o : Bool). result o after) (sym (e .0)) (subst (λ (u : List ℕ). result b u) (sym (e .1)) a)
 
-    pub inv-idle : running ≡ 64 → (ok ≡ true) × (after ≡ used) → Answers threads order groups m limit meter time most count running ok after
+    pub inv-idle : running ≡ 64 → (ok ≡ true) × (after ≡ used) → Answers threads order m limit meter time most count running ok after
     inv-idle e q = equal true q (ended true (sym (rw (eq-eqb running 64 e))))
 
     pub inv-run : (running ≡ 64 → ⊥) → (ok ≡ turnOk time (getD threads running noThread)) × (after ≡ used)
-        → Answers threads order groups m limit meter time most count running ok after
+        → Answers threads order m limit meter time most count running ok after
     inv-run n q =
         let r : Bool = turnOk time (getD threads running noThread) in
         equal r q (ended r (sym (rw (ne-eqb running 64 n))))

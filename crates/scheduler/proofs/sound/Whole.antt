@@ -1,10 +1,11 @@
 -- The parts of the test together are `sound`. The list's test and the threads' tests meet in `entryOk`: every number in the list is
--- that of a reserved thread just where no other number is marked. The running thread's test is shared out between the meter's part
+-- that of a reserved thread just where no other number is marked. That a thread's group is open is the groups' part: a closed group
+-- carries nothing, and a reserved thread's group carries its reservation. The running thread's test is shared out between the meter's part
 -- and the threads' part, which has that a best-effort thread's tag is then the virtual time; a runnable thread is admitted.
-use Prim.Native.Nat.{ℕ, _*_, _≤_, _<_}
+use Prim.Native.Nat.{ℕ, _+_, _*_, _≤_, _<_}
 use mathlib.Core.Path.{_≡_, refl, sym, subst}
 use mathlib.Core.List.{List}
-use mathlib.Core.Bool.{Bool, true, false, not, _&&_, _||_}
+use mathlib.Core.Bool.{Bool, true, false, not, cond, _&&_, _||_}
 use native.Mathlib.Omega.{arith}
 use lib.ListN.{length, length-map}
 use mir.Val.{Val}
@@ -15,19 +16,20 @@ use borrow.Author.Tests.{lt-ltb, eq-eqb, ne-eqb, eqb-true, eqb-false}
 use Rattle.base.specs.Lists.{distinct, everyOf, everyBelow}
 use Rattle.base.proofs.Bools.{by, cases, and-l, and-r, both, is, holds, implies, implied, or-right}
 use Rattle.base.proofs.Lists.{everyOf-at, everyOf-map}
-use Rattle.base.proofs.Sums.{everyBelow-at, everyBelow-of}
+use Rattle.base.proofs.Sums.{everyBelow-at, everyBelow-of, sum-more, sum-grows}
 use Rattle.scheduler.specs.declared.Settings.{Settings}
 use Rattle.scheduler.specs.declared.Thread.{Thread}
 use Rattle.scheduler.specs.declared.Scheduler.{Scheduler}
 use Rattle.scheduler.specs.State.{isAdmitted, isRunnable, hasReservation, threadAt, admittedAt, reservedAt, effortAt, runnableAt}
-use Rattle.scheduler.specs.State.{listed, meterLimit, meterMost}
+use Rattle.scheduler.specs.State.{groupOf, reservationAt, openAt, listed, meterLimit, meterMost}
 use Rattle.fair.specs.Tags.{tagUnit}
-use Rattle.scheduler.specs.Sound.{settingsOk, groupsOk, threadOk, listOk, runningOk, shapeOk, sound}
-use Rattle.scheduler.specs.Inner.{entryOk, turnOk}
-use Rattle.scheduler.proofs.Facts.{settings-facts}
+use Rattle.scheduler.specs.Sound.{settingsOk, threadIn, reservedIn, load, groupsOk, threadOk, listOk, runningOk, shapeOk, sound}
+use Rattle.scheduler.specs.Inner.{entryOk, turnOk, closedOk}
+use Rattle.scheduler.proofs.Facts.{facts, settings-facts}
+use Rattle.scheduler.proofs.Tree.{carried}
 use Rattle.scheduler.proofs.Scheduler as scheduler
 use Rattle.scheduler.proofs.sound.Laws.{same}
-use Rattle.scheduler.proofs.sound.Entries.{timed, entry-of, timed-of, thread-of, reserved-of}
+use Rattle.scheduler.proofs.sound.Entries.{homed, timed, entry-of, timed-of, thread-of, reserved-of, low-of}
 
 -- six tests
 abbrev Six : Bool → Bool → Bool → Bool → Bool → Bool → Type 0
@@ -78,12 +80,41 @@ module _ (s : Scheduler) where
       entry-of s n (everyBelow-at (threadOk s) 64 t n l)
       (λ u. and-r (ltb n 64) (reservedAt s n) (everyOf-at (λ n. ltb n 64 && reservedAt s n) (listed s) h n u)))
 
-  threads-of : T entries → ((n : ℕ) → n < 64 → T (timed s n)) → T threads
-  threads-of t f = everyBelow-of (threadOk s) 64 (λ n l. thread-of s n (everyBelow-at (entryOk s) 64 t n l) (f n l))
+  threads-of : T entries → ((n : ℕ) → n < 64 → T (homed s n)) → ((n : ℕ) → n < 64 → T (timed s n)) → T threads
+  threads-of t f g = everyBelow-of (threadOk s) 64 (λ n l. thread-of s n (everyBelow-at (entryOk s) 64 t n l) (f n l) (g n l))
 
   held-of : T entries → T low → T held
   held-of t = everyOf-map (λ n. ltb n 64) (λ n. ltb n 64 && reservedAt s n) (listed s) (λ n u v.
       both (ltb n 64) (reservedAt s n) v (reserved-of s n (everyBelow-at (entryOk s) 64 t n (ltb→lt n 64 v)) u))
+
+  -- the groups: one that a reserved thread is in carries its reservation, so it is open
+
+  carries-it : (n : ℕ) → n < 64 → T (reservedAt s n) → 0 < load s (groupOf (threadAt s n))
+  unfolding load reservedIn threadIn reservedAt reservationAt
+  carries-it n l r =
+      let x : Thread = threadAt s n in
+      let f : ℕ → ℕ = λ j. cond (threadIn s (groupOf x) j) (reservationAt s j) 0 in
+      let own : f n ≡ x .reservation = rw (is (reservedAt s n) r, eq-eqb (groupOf x) (groupOf x) refl) in
+      let some = ltb→lt 0 (x .reservation) (and-r (isAdmitted x) (hasReservation x) r) in
+      omega (arith, sum-more f n, sum-grows f (n + 1) 64 (omega arith))
+
+  homes-of : T (closedOk s) → T entries → (n : ℕ) → n < 64 → T (homed s n)
+  homes-of z t n l =
+      let g : ℕ = groupOf (threadAt s n) in
+      implies (reservedAt s n) (openAt s g) (λ r.
+      let k = everyBelow-at (λ g. openAt s g || eqb (load s g) 0) 16 z g (low-of s n (everyBelow-at (entryOk s) 64 t n l) r) in
+      cases (openAt s g) (holds (openAt s g))
+      (λ e.
+      let none = eqb→eq (load s g) 0 (subst (λ (b : Bool). T (b || eqb (load s g) 0)) e k) in
+      absurd (omega (arith, carries-it n l r))))
+
+  -- and a closed group of a sound state carries nothing
+  closed-of : T (sound s) → T (closedOk s)
+  closed-of z = everyBelow-of (λ g. openAt s g || eqb (load s g) 0) 16 (λ g l.
+      by (λ b. openAt s g ≡ b → T (b || eqb (load s g) 0)) (openAt s g)
+      (λ e _. tt)
+      (λ e _. holds (eqb (load s g) 0) (eq-eqb (load s g) 0 (carried s (facts s z) g e)))
+      refl)
 
   -- the running thread
 
@@ -170,7 +201,7 @@ module _ (s : Scheduler) where
     pub meter : (leb (s .meter) meterMost && leb (s .running) 64 && (idle || ltb (s .meter) meterLimit)) ≡ true
     pub few : s .count ≤ 64
     pub threads : (low && distinct (listed s) && (entries && runs)) ≡ true
-    pub groups : groupsOk s ≡ true
+    pub groups : (groupsOk s && closedOk s) ≡ true
     pub time : s .time ≤ tagUnit * s .meter
 
   parts-of : T (sound s) → Parts
@@ -194,7 +225,7 @@ module _ (s : Scheduler) where
         few = leb→le (s .count) 64 (and-l few held (and-l (few && held) once (q .4)));
         threads = is (low && once && (entries && runs)) (both (low && once) (entries && runs)
             (both low once (held-low all) (and-r (few && held) once (q .4))) (both entries runs (entries-of (q .3) all) (k .runnable)));
-        groups = is (groupsOk s) (q .2);
+        groups = is (groupsOk s && closedOk s) (both (groupsOk s) (closedOk s) (q .2) (closed-of z));
         time = leb→le (s .time) (tagUnit * s .meter) (and-r (rest && most) timed z);
       }
 
@@ -213,14 +244,15 @@ module _ (s : Scheduler) where
       let entry = and-l (low && once) (entries && runs) pass in
       let turn = and-r (low && once) (entries && runs) pass in
       let each = and-l entries runs turn in
+      let groups = holds (groupsOk s && closedOk s) (k .groups) in
       both (shapeOk s && settingsOk (s .settings) && groupsOk s && threads && list && runningOk s && most)
       (leb (s .time) (tagUnit * s .meter))
       (both (shapeOk s && settingsOk (s .settings) && groupsOk s && threads && list && runningOk s) most
       (into (shapeOk s) (settingsOk (s .settings)) (groupsOk s) threads list (runningOk s) (
         h,
         holds (settingsOk (s .settings)) (k .settings),
-        holds (groupsOk s) (k .groups),
-        threads-of each (times-of (and-r entries runs turn)),
+        and-l (groupsOk s) (closedOk s) groups,
+        threads-of each (homes-of (and-r (groupsOk s) (closedOk s) groups) each) (times-of (and-r entries runs turn)),
         both (few && held) once (both few held (le→leb (s .count) 64 (k .few)) (held-of each (and-l low once entry)))
             (and-r low once entry),
         running-of (record {
@@ -235,10 +267,10 @@ module _ (s : Scheduler) where
   pub unsound : (Parts → ⊥) → false ≡ sound s
   unsound f = same false (sound s) (λ z. absurd z) (λ z. absurd (f (parts-of z)))
 
-  pub whole : T (shapeOk s) → (b : Bool) → b ≡ groupsOk s → (groupsOk s ≡ true → Parts) → b ≡ sound s
+  pub whole : T (shapeOk s) → (b : Bool) → b ≡ (groupsOk s && closedOk s) → ((groupsOk s && closedOk s) ≡ true → Parts) → b ≡ sound s
   whole h b e f =
-      same b (sound s) (λ z. sound-of h (f (is (groupsOk s) (subst T e z))))
-      (λ z. subst T (sym e) (holds (groupsOk s) (parts-of z .groups)))
+      same b (sound s) (λ z. sound-of h (f (is (groupsOk s && closedOk s) (subst T e z))))
+      (λ z. subst T (sym e) (holds (groupsOk s && closedOk s) (parts-of z .groups)))
 
 -- What the settings' and the meter's tests say of m and the running thread.
 

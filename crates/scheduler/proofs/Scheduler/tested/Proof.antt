@@ -22,7 +22,7 @@ fails s ok used e u = record { test = e ∙ u; sums = λ z. absurd (false≢true
 
 -- the places that the needs look back to, nearest first: past the time's test, the meter's and the settings' tests; and the state tested
 abbrev fourth : tie.After-struct-known3 → tie.Else4
-fourth c = c .before .before .before .before .before .before
+fourth c = c .before .before .before .before .before
 
 abbrev second : tie.Else3 → tie.Else2
 second c = c .before
@@ -125,16 +125,16 @@ returns-5 c =
     (unsound s (λ k. false≢true (sym (not-true _ (d .if5 .taken)) ∙ passed p .test ∙ k .threads)))
 
 groups-ok-requires : tie.Need-groups-ok-requires
-groups-ok-requires c κs = passed (c .before .before .before) .small (not-false _ (c .before .if5 .left))
+groups-ok-requires c κs = passed (c .before .before .before .before) .small (not-false _ (c .before .before .if5 .left))
 
 returns-6 : tie.Need-returns-6
 returns-6 c =
-    let q = c .before .before .before .before in
+    let q = c .before .before .before .before .before in
     let f = fourth (q .before) in
     let a = first (f .before) in
     let b = second (f .before) in
     let p = passed q in
-    let ok = not-false _ (c .before .before .if5 .left) in
+    let ok = not-false _ (c .before .before .before .if5 .left) in
     record {
       test =
           whole (state a) (shaped (state a) _ (a .before .before .before .good .0)) (c .groups-ok .result)

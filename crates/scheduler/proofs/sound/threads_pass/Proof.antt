@@ -10,16 +10,16 @@ use borrow.Author.Tests.{not-true, not-false}
 use Rattle.scheduler.specs.State.{noThread}
 use Rattle.scheduler.proofs.sound.Laws.{strict, next-fits}
 use Rattle.scheduler.proofs.sound.Threads.{numbers-of, Listed, listed-of, ThreadsInv, inv-list, inv-none, inv-skip, inv-stray}
-use Rattle.scheduler.proofs.sound.Threads.{inv-bad, inv-home, inv-add, sum-fits, inv-idle, inv-run}
+use Rattle.scheduler.proofs.sound.Threads.{inv-bad, inv-add, sum-fits, inv-idle, inv-run}
 use Rattle.scheduler.proofs.sound.threads_pass.Statement.{statement}
 use Rattle.scheduler.proofs.sound.threads_pass.Tie as tie
 
 abbrev Inv-loop : tie.InvT-loop
-Inv-loop m limit meter time most count running threads groups seen used₀ i₀ used i =
-    ThreadsInv threads groups seen m limit meter time most count running i used
+Inv-loop m limit meter time most count running threads seen used₀ i₀ used i =
+    ThreadsInv threads seen m limit meter time most count running i used
 
 abbrev μ-loop : tie.MeasureT-loop
-μ-loop m limit meter time most count running threads groups seen used₀ i₀ used i = 64 - i
+μ-loop m limit meter time most count running threads seen used₀ i₀ used i = 64 - i
 
 list-seen-requires : tie.Need-list-seen-requires Inv-loop μ-loop
 list-seen-requires c κs = c .pre .1
@@ -113,71 +113,54 @@ module _ (c : tie.After-struct-known2 Inv-loop μ-loop) where
       numbers-of (a .m) (a .meter) (getD (a .t1) (turn .before .loop .i) noThread)
       (sym (c .before .before .listed-ok .ensures) ∙ not-false _ (c .before .if4 .left)) .low
 
-mul-opened : tie.Need-mul-opened Inv-loop μ-loop
-mul-opened c = scaled-fits (group c) 16 4 (low c) (lit< tt)
-
-element-copy-out-opened : tie.Need-element-copy-out-opened Inv-loop μ-loop
-element-copy-out-opened c = low c
-
-failed-requires-4 : tie.Need-failed-requires-4 Inv-loop μ-loop
-failed-requires-4 c κs = tt
-
-returns-4 : tie.Need-returns-4 Inv-loop μ-loop
-returns-4 c =
-    let k = c .before .before in
-    let f = k .before .before in
-    let t = turn k in
-    inv-home (t .before .loop .inv) (t .loop-test .taken) (not-false _ (f .before .if2 .left)) (f .listed-ok .ensures)
-    (c .before .if5 .taken) (list (t .before)) (c .failed4 .ensures)
-
 mul-used : tie.Need-mul-used Inv-loop μ-loop
-mul-used c = scaled-fits (group (c .before)) 16 4 (low (c .before)) (lit< tt)
+mul-used c = scaled-fits (group c) 16 4 (low c) (lit< tt)
 
 array-read-used : tie.Need-array-read-used Inv-loop μ-loop
-array-read-used c = low (c .before)
+array-read-used c = low c
 
 cast-used : tie.Need-cast-used Inv-loop μ-loop
 cast-used c = fits-widen tt (c .struct-known3 .given .1 .1 .1 .1 .1 .0)
 
 add-used : tie.Need-add-used Inv-loop μ-loop
 add-used c =
-    let k = c .before .before in
+    let k = c .before in
     let f = k .before .before in
     let t = turn k in
     sum-fits (t .before .loop .inv) (t .loop-test .taken) (not-false _ (f .before .if2 .left)) (f .listed-ok .ensures)
-    (not-false _ (k .before .if4 .left)) (c .before .if5 .left)
+    (not-false _ (k .before .if4 .left))
 
 mul-used-2 : tie.Need-mul-used-2 Inv-loop μ-loop
-mul-used-2 c = scaled-fits (group (c .before .before)) 16 4 (low (c .before .before)) (lit< tt)
+mul-used-2 c = scaled-fits (group (c .before)) 16 4 (low (c .before)) (lit< tt)
 
 array-write-used : tie.Need-array-write-used Inv-loop μ-loop
-array-write-used c = low (c .before .before)
+array-write-used c = low (c .before)
 
 add-i-2 : tie.Need-add-i-2 Inv-loop μ-loop
-add-i-2 c = let t = turn (c .before .before) in next-fits (t .before .loop .i) (t .loop-test .taken)
+add-i-2 c = let t = turn (c .before) in next-fits (t .before .loop .i) (t .loop-test .taken)
 
 loop-less-2 : tie.Need-loop-less-2 Inv-loop μ-loop
-loop-less-2 c = let t = turn (c .before .before) in falls 64 (t .before .loop .i) (t .loop-test .taken)
+loop-less-2 c = let t = turn (c .before) in falls 64 (t .before .loop .i) (t .loop-test .taken)
 
 loop-again-2 : tie.Need-loop-again-2 Inv-loop μ-loop
 loop-again-2 c =
-    let k = c .before .before in
+    let k = c .before in
     let f = k .before .before in
     let t = turn k in
     inv-add (t .before .loop .inv) (t .loop-test .taken) (not-false _ (f .before .if2 .left)) (f .listed-ok .ensures)
-    (not-false _ (k .before .if4 .left)) (c .before .if5 .left)
+    (not-false _ (k .before .if4 .left))
 
 passed-requires : tie.Need-passed-requires Inv-loop μ-loop
 passed-requires c κs = tt
 
-returns-5 : tie.Need-returns-5 Inv-loop μ-loop
-returns-5 c =
+returns-4 : tie.Need-returns-4 Inv-loop μ-loop
+returns-4 c =
     let l = c .before .before in
-    inv-idle (l .before .loop .inv) (l .loop-test .left) (list (l .before)) (c .before .if6 .taken) (c .passed .ensures)
+    inv-idle (l .before .loop .inv) (l .loop-test .left) (list (l .before)) (c .before .if5 .taken) (c .passed .ensures)
 
 -- the running thread's number
-running : (c : tie.Else6 Inv-loop μ-loop) → start (c .before .before) .args .running < 64
-running c = strict (start (c .before .before) .pre .2) (c .if6 .left)
+running : (c : tie.Else5 Inv-loop μ-loop) → start (c .before .before) .args .running < 64
+running c = strict (start (c .before .before) .pre .2) (c .if5 .left)
 
 mul-x : tie.Need-mul-x Inv-loop μ-loop
 mul-x c = scaled-fits (start (c .before .before) .args .running) 64 48 (running c) (lit< tt)
@@ -188,11 +171,11 @@ array-copy-out-x c = running c
 passed-requires-2 : tie.Need-passed-requires-2 Inv-loop μ-loop
 passed-requires-2 c κs = tt
 
-returns-6 : tie.Need-returns-6 Inv-loop μ-loop
-returns-6 c =
+returns-5 : tie.Need-returns-5 Inv-loop μ-loop
+returns-5 c =
     let i = c .before .before .before .before .before in
     let l = i .before in
-    inv-run (l .before .loop .inv) (l .loop-test .left) (list (l .before)) (i .if6 .left) (c .passed2 .ensures)
+    inv-run (l .before .loop .inv) (l .loop-test .left) (list (l .before)) (i .if5 .left) (c .passed2 .ensures)
 
 pub threads-pass-spec : {M : Type 1} → statement M
 threads-pass-spec =
@@ -217,10 +200,6 @@ threads-pass-spec =
     failed-requires-3
     returns-3
     cast-g
-    mul-opened
-    element-copy-out-opened
-    failed-requires-4
-    returns-4
     mul-used
     array-read-used
     cast-used
@@ -231,8 +210,8 @@ threads-pass-spec =
     loop-less-2
     loop-again-2
     passed-requires
-    returns-5
+    returns-4
     mul-x
     array-copy-out-x
     passed-requires-2
-    returns-6)
+    returns-5)
