@@ -71,7 +71,7 @@ impl Thread {
     }
 
     // What it may run for at once.
-    fn slice(self, interval: u32) -> u32
+    pub(crate) fn slice(self, interval: u32) -> u32
         ensures { λ r. ⌜ r ≡ cond (hasReservation self) (min (natOf (self .allotment)) interval) interval ⌝ }
     {
         if !self.has_reservation() {
