@@ -21,7 +21,8 @@ use Rattle.scheduler.specs.Effects.{aside, charged, exited, reported, chosen, e
 use Rattle.scheduler.specs.Rule.{isDispatch, accept, refuse, step}
 use Rattle.guarantee.specs.Stretch.{Event, trace, final, accepted, ticksOf, named, sumIn, ticksIn, ticksBy, keeps, throughout}
 use Rattle.guarantee.specs.Stretch.{staysReady, keepsReady, Ready, Fair}
-use Rattle.scheduler.proofs.Facts.{Facts, facts, reserved-has, effort-admitted, effort-none, in-threads, thread-other, thread-same}
+use Rattle.scheduler.proofs.Facts.{Facts, facts, reserved-has, effort-admitted, effort-none, in-threads}
+use Rattle.scheduler.proofs.Changed.{thread-other, thread-same}
 use Rattle.scheduler.proofs.Passed.{passes, change-ok, admit-effort-ok, wake-blocked, admit-passed, report-passed, kind-cases}
 use Rattle.scheduler.proofs.Passed.{effort-cases, reported-cases, removed-cases}
 use Rattle.scheduler.proofs.Preserved.{stays-sound}

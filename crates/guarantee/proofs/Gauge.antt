@@ -14,7 +14,7 @@ use Rattle.base.specs.Lists.{member, without}
 use Rattle.base.proofs.Bools.{by, is, clash, nor-l, nor-r}
 use Rattle.base.proofs.Lists.{sumOf, ahead, before, mask, ahead-snoc, before-snoc, ahead-stay, ahead-gone, before-without, member-without}
 use Rattle.base.proofs.Lists.{ahead-rear, sumOf-le, without-none}
-use Rattle.scheduler.proofs.Facts.{fits}
+use Rattle.scheduler.proofs.Changed.{fits}
 
 -- al: the allotments; l: the list; r: the running thread, or 64; v: its slice; sel: the threads that count
 unfoldable pub gauge : (ℕ → Bool) → ℕ → (ℕ → ℕ) → List ℕ → ℕ → ℕ → ℕ

@@ -19,7 +19,8 @@ use Rattle.scheduler.specs.Effects.{toRear, offList, join, newThread, effortThr
 use Rattle.scheduler.specs.Effects.{accounted, allotmentAfter, exited, reported, chosen, changedThread, effect}
 use Rattle.scheduler.specs.Rule.{isDispatch}
 use Rattle.guarantee.specs.Stretch.{keeps, retains, ticksOf, keepsRunnable, keepsAdmitted, staysReady, keepsReady}
-use Rattle.scheduler.proofs.Facts.{facts, in-threads, thread-other, thread-same}
+use Rattle.scheduler.proofs.Facts.{facts, in-threads}
+use Rattle.scheduler.proofs.Changed.{thread-other, thread-same}
 use Rattle.guarantee.proofs.Gauge.{cond-zero}
 use Rattle.scheduler.proofs.Passed.{passes, admit-passed, admit-effort-ok, change-ok, report-passed, reported-cases, removed-cases}
 

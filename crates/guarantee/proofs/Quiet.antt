@@ -21,8 +21,10 @@ use Rattle.scheduler.specs.State.{noThread, hasReservation, threadAt, admittedA
 use Rattle.scheduler.specs.State.{allotmentAt, quantum, listed, sliceAt, withThread, withGroup, withList, withRun}
 use Rattle.scheduler.specs.Refusals.{admit, remove, wake, dispatch, change, admitEffort}
 use Rattle.scheduler.specs.Effects.{rear, toRear, offList, join, newThread, effortThread, wokenThread, changedThread, firstListed, effect}
-use Rattle.scheduler.proofs.Facts.{Facts, reserved-admitted, admitted-reserved, in-threads, below-quantum, below-64, outside, fits}
-use Rattle.scheduler.proofs.Facts.{take-off, room, listed-join, unlisted, thread-same}
+use Rattle.scheduler.proofs.Facts.{Facts, reserved-admitted, admitted-reserved, in-threads, below-quantum, below-64, outside}
+use Rattle.scheduler.proofs.Changed.{fits}
+use Rattle.scheduler.proofs.Facts.{unlisted}
+use Rattle.scheduler.proofs.Changed.{take-off, room, listed-join, thread-same}
 use Rattle.guarantee.proofs.Gauge.{gauge, gauge-join, gauge-leave, gauge-run, gauge-cut, gauge-aside, quiet-step}
 use Rattle.scheduler.proofs.Steps.{from-list, allotment-other, slice-other, woken-allotment, changed-allotment}
 use Rattle.scheduler.proofs.Passed.{ChangeOk, removed-cases}

@@ -18,7 +18,8 @@ use Rattle.scheduler.specs.Refusals.{refusal}
 use Rattle.scheduler.specs.Effects.{toRear, offList, chargedThread, spentThread, aside, charged, exited, reported, chosen, effect}
 use Rattle.scheduler.specs.Rule.{isDispatch, accept, refuse, step}
 use Rattle.guarantee.specs.Stretch.{Event, trace, final, accepted, named, keeps, throughout, staysReady, keepsReady, Ready}
-use Rattle.scheduler.proofs.Facts.{facts, in-threads, peel, thread-same}
+use Rattle.scheduler.proofs.Facts.{facts, in-threads, peel}
+use Rattle.scheduler.proofs.Changed.{thread-same}
 use Rattle.scheduler.proofs.Passed.{passes, report-passed, reported-cases, removed-cases}
 use Rattle.guarantee.proofs.Keep.{running-named}
 use Rattle.guarantee.proofs.Stretch.{Attributed, events, replied}

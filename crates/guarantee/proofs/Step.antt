@@ -24,7 +24,8 @@ use Rattle.scheduler.specs.Effects.{listReported, reported, effect}
 use Rattle.guarantee.specs.Stretch.{keeps, retains, ticksOf, keepsRunnable}
 use Rattle.scheduler.proofs.Debt.{used-most}
 use Rattle.scheduler.proofs.Facts.{Facts, facts, reserved-admitted, reserved-has, admitted-reserved, in-threads, member-reserved}
-use Rattle.scheduler.proofs.Facts.{below-quantum, outside, fits, take-rear, take-off}
+use Rattle.scheduler.proofs.Facts.{below-quantum, outside}
+use Rattle.scheduler.proofs.Changed.{fits, take-rear, take-off}
 use Rattle.guarantee.proofs.Gauge.{gauge, gauge-stay, gauge-off, gauge-rear, gauge-self, gauge-turn, gauge-end, run-step, turn-step}
 use Rattle.scheduler.proofs.Steps.{slice-within, allotment-other, charged-left, charged-debt}
 use Rattle.scheduler.proofs.Passed.{passes, admit-passed, remove-passed, wake-passed, dispatch-passed, report-passed, change-ok}

@@ -29,7 +29,8 @@ use Rattle.scheduler.specs.Effects.{effortReported, reported, removed, f
 use Rattle.scheduler.specs.Effects.{effect}
 use Rattle.scheduler.specs.Rule.{isDispatch, accept, step}
 use Rattle.scheduler.specs.Accounts.{lagOf, allotmentOf}
-use Rattle.scheduler.proofs.Facts.{Facts, facts, member-reserved, below-64, effort-admitted, effort-none, in-threads, thread-same}
+use Rattle.scheduler.proofs.Facts.{Facts, facts, member-reserved, below-64, effort-admitted, effort-none, in-threads}
+use Rattle.scheduler.proofs.Changed.{thread-same}
 use Rattle.scheduler.proofs.Passed.{passes, admit-effort-ok, reported-cases, removed-cases}
 use Rattle.scheduler.proofs.Steps.{step-state, listed-runnable, effort-best, choice, thread-is, before-is, all-blocked, one-kind}
 use Rattle.scheduler.proofs.Steps.{count-some, count-all}

@@ -1,6 +1,7 @@
 pub mod Debt
 pub mod Word
 pub mod Facts
+pub mod Changed
 pub mod Passed
 pub mod Steps
 pub mod Tree

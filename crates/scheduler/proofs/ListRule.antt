@@ -29,7 +29,8 @@ use Rattle.scheduler.specs.Effects.{readyAt, firstEffort, chosen, effort
 use Rattle.scheduler.specs.Rule.{accept, refuse, step}
 use Rattle.scheduler.proofs.Debt.{all-used, still-left, debt-after}
 use Rattle.scheduler.proofs.Facts.{Facts, facts, reserved-admitted, reserved-has, admitted-reserved, admitted-effort, in-threads}
-use Rattle.scheduler.proofs.Facts.{member-admitted, fits, take-rear, take-off, room, listed-join, thread-same, thread-other}
+use Rattle.scheduler.proofs.Facts.{member-admitted}
+use Rattle.scheduler.proofs.Changed.{fits, take-rear, take-off, room, listed-join, thread-same, thread-other}
 use Rattle.scheduler.proofs.Facts.{unlisted}
 use Rattle.scheduler.proofs.Passed.{passes, admit-passed, remove-passed, wake-passed, report-passed, change-ok, kind-cases}
 use Rattle.scheduler.proofs.Passed.{list-cases, effort-cases, reported-cases, removed-cases}

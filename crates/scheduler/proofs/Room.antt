@@ -16,7 +16,8 @@ use Rattle.scheduler.specs.State.{withList}
 use Rattle.scheduler.specs.Sound.{load, threadIn, childOf, reservedIn, ceilingsIn, sound}
 use Rattle.scheduler.specs.Refusals.{admit, remove, change, free, roomFor, checks, refusal}
 use Rattle.scheduler.specs.Effects.{offList, removed, effect}
-use Rattle.scheduler.proofs.Facts.{Facts, facts, reserved-admitted, reserved-has, in-threads, thread-same, thread-other, carries}
+use Rattle.scheduler.proofs.Facts.{Facts, facts, reserved-admitted, reserved-has, in-threads, carries}
+use Rattle.scheduler.proofs.Changed.{thread-same, thread-other}
 use Rattle.scheduler.proofs.Soundness.Change.{shareOf}
 use Rattle.scheduler.proofs.Preserved.{preserved}
 

@@ -26,7 +26,8 @@ use Rattle.scheduler.specs.Effects.{efforts, passedOver, allotmentAfter,
 use Rattle.scheduler.specs.Rule.{isDispatch, accept, refuse, step}
 use Rattle.scheduler.proofs.Debt.{used-most, used-less, after-nat, debt-after, kept-after}
 use Rattle.scheduler.proofs.Facts.{Facts, reserved-has, effort-admitted, effort-none, in-threads, member-admitted, below-64}
-use Rattle.scheduler.proofs.Facts.{thread-other, thread-same, settings-facts}
+use Rattle.scheduler.proofs.Facts.{settings-facts}
+use Rattle.scheduler.proofs.Changed.{thread-other, thread-same}
 
 -- the state after a call, accepted or refused
 pub step-state : (c : Call) (s : Scheduler) → refusal c s ≡ 0 → step c s ≡ accept c s

@@ -26,7 +26,8 @@ use Rattle.scheduler.specs.Refusals.{admit, free}
 use Rattle.scheduler.specs.Effects.{rear, toRear, offList, join, newThread, wokenThread, allotmentAfter, accounted, chargedThread}
 use Rattle.scheduler.specs.Effects.{aside, charged, exited, listReported, effect}
 use Rattle.scheduler.proofs.Facts.{Fit, Account, TagFacts, ThreadFacts, RunFacts, Facts, reserved-admitted, reserved-has, carries}
-use Rattle.scheduler.proofs.Facts.{settings-facts, take-rear, take-off, length-rear, room, listed-join, thread-other, thread-same}
+use Rattle.scheduler.proofs.Facts.{settings-facts}
+use Rattle.scheduler.proofs.Changed.{take-rear, take-off, length-rear, room, listed-join, thread-other, thread-same}
 use Rattle.scheduler.proofs.Facts.{unlisted}
 use Rattle.scheduler.proofs.Passed.{list-cases, AdmitOk}
 use Rattle.scheduler.proofs.Steps.{charge-most, after-fits}

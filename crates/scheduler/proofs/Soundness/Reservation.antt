@@ -17,7 +17,8 @@ use Rattle.scheduler.specs.State.{admittedAt, isAdmitted, isRunnable}
 use Rattle.scheduler.specs.Sound.{load}
 use Rattle.scheduler.specs.Refusals.{change, free, roomFor}
 use Rattle.scheduler.specs.Effects.{changedThread, effect}
-use Rattle.scheduler.proofs.Facts.{Fit, Facts, reserved-admitted, carries, settings-facts, thread-other}
+use Rattle.scheduler.proofs.Facts.{Fit, Facts, reserved-admitted, carries, settings-facts}
+use Rattle.scheduler.proofs.Changed.{thread-other}
 use Rattle.scheduler.proofs.Passed.{ChangeOk}
 use Rattle.scheduler.proofs.Soundness.Change.{account-anew, shareOf}
 use Rattle.scheduler.proofs.Soundness.Calls.{entry-facts}

@@ -18,7 +18,8 @@ use Rattle.scheduler.specs.State.{groupOf, noGroup, isOpen, threadAt, gr
 use Rattle.scheduler.specs.Sound.{threadIn, childOf, reservedIn, ceilingsIn, load}
 use Rattle.scheduler.specs.Refusals.{free, inUse}
 use Rattle.scheduler.specs.Inner.{Sums}
-use Rattle.scheduler.proofs.Facts.{Facts, member-admitted, room}
+use Rattle.scheduler.proofs.Facts.{Facts, member-admitted}
+use Rattle.scheduler.proofs.Changed.{room}
 use Rattle.scheduler.proofs.Tree.{child-of}
 
 -- Child groups in a table of groups.

@@ -30,7 +30,8 @@ use Rattle.scheduler.specs.Effects.{firstListed, readyAt, firstEffort, c
 use Rattle.scheduler.specs.Rule.{isDispatch}
 use Rattle.scheduler.specs.Answers.{acceptedAnswer, answeredTo}
 use Rattle.scheduler.specs.Inner.{bestOf, effortsOf}
-use Rattle.scheduler.proofs.Facts.{Facts, facts, effort-admitted, length-listed}
+use Rattle.scheduler.proofs.Facts.{Facts, facts, effort-admitted}
+use Rattle.scheduler.proofs.Changed.{length-listed}
 use Rattle.scheduler.proofs.Steps.{chosen-runnable}
 use Rattle.scheduler.proofs.Passed.{passes, dispatch-passed}
 use Rattle.scheduler.proofs.threads.Replies.{answered, answered-accepted, refused, rest}

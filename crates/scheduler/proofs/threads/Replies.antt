@@ -29,7 +29,8 @@ use Rattle.scheduler.specs.Refusals.{Call, wake, remove, admitEffort, ch
 use Rattle.scheduler.specs.Effects.{rear, offList, removed, wokenThread, effortThread, chosen, passedOver, effect, started, unstarted}
 use Rattle.scheduler.specs.Rule.{isDispatch, accept, refuse, step, startReply}
 use Rattle.scheduler.specs.Answers.{acceptedAnswer, answerTo, answeredTo, startAnswered, numbersOf, replyOf}
-use Rattle.scheduler.proofs.Facts.{Facts, facts, admitted-reserved, length-listed}
+use Rattle.scheduler.proofs.Facts.{Facts, facts, admitted-reserved}
+use Rattle.scheduler.proofs.Changed.{length-listed}
 use Rattle.scheduler.proofs.Passed.{passes, remove-passed, wake-passed, admit-effort-ok}
 
 abbrev pub answered : Answer → Scheduler → Answered
