@@ -104,9 +104,10 @@ pub extern "C" fn mtr_by_value_admit(
     handed(state.admit(number, group, reservation))
 }
 
-// Admits a best-effort thread with a weight: runnable, in no group and outside the list. It runs while no reserved thread is runnable, and
-// shares that time with the other best-effort threads by weight. Refused: 16, the state is not sound; 7, the number is above 63; 8, the
-// thread is already admitted; 4, the weight is outside 1 to 16. The state is then unchanged. Accepted, only the thread's entry changes.
+// Admits a best-effort thread with a weight: runnable, in no group and outside the list. It is dispatched only if no reserved thread is
+// runnable, and shares that time with the other best-effort threads by weight. Refused: 16, the state is not sound; 7, the number is above
+// 63; 8, the thread is already admitted; 4, the weight is outside 1 to 16. The state is then unchanged. Accepted, only the thread's entry
+// changes.
 #[no_mangle]
 pub extern "C" fn mtr_by_value_admit_best_effort(
     state: Scheduler,

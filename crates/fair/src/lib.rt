@@ -2,7 +2,7 @@
 // rounds: the unit of tags is a multiple of every weight.
 ghost use Prim.Native.Nat.{min};
 ghost use mathlib.Core.Path.{_≡_};
-ghost use mathlib.Core.Bool.{not, _&&_, _||_};
+ghost use mathlib.Core.Bool.{false, not, _&&_, _||_};
 ghost use lib.Dec.{ltb, eqb};
 ghost use Rattle.base.specs.Checks.{within};
 ghost use Rattle.fair.specs.Tags.{cost, finishTag, startTag, firstOr, counted, timeAfter, tagOk};
@@ -55,18 +55,10 @@ pub fn outside(weight: u64) -> bool
     (weight < WEIGHT_LEAST as u64) | ((WEIGHT_MOST as u64) < weight)
 }
 
-// What soundness asks of a best-effort thread's weight and tag. It runs for each of them at every call, so it multiplies and does not
-// divide, and each test returns by itself.
-pub fn tag_ok(
-    limit: u32,
-    time: u64,
-    most: u64,
-    weight: u8,
-    ready: bool,
-    running: bool,
-    tag: u64,
-) -> bool
-    ensures { λ r. ⌜ r ≡ tagOk limit time most weight ready running tag ⌝ }
+// What soundness asks of the weight and the tag of a best-effort thread that does not run. It runs for each of them at every call, so it
+// multiplies and does not divide, and each test returns by itself.
+pub fn tag_ok(limit: u32, time: u64, most: u64, weight: u8, ready: bool, tag: u64) -> bool
+    ensures { λ r. ⌜ r ≡ tagOk limit time most weight ready false tag ⌝ }
 {
     if weight < WEIGHT_LEAST {
         return false;
@@ -76,9 +68,6 @@ pub fn tag_ok(
     }
     if most < tag {
         return false;
-    }
-    if running {
-        return tag == time;
     }
     if tag < time {
         return !ready;

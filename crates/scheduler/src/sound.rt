@@ -123,15 +123,7 @@ fn unlisted_ok(t: Thread, limit: u32, meter: u64, time: u64, most: u64) -> bool
     if !account_ok(t, meter) {
         return false;
     }
-    fair::tag_ok(
-        limit,
-        time,
-        most,
-        t.group_or_weight,
-        status == 1,
-        false,
-        t.tag,
-    )
+    fair::tag_ok(limit, time, most, t.group_or_weight, status == 1, t.tag)
 }
 
 // The list's entries are thread numbers, each once.

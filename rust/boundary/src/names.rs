@@ -307,7 +307,7 @@ pub const FAMILIES: [Family; 10] = [
             one(
                 "REASON_YIELD",
                 constant(RUN, "YIELD"),
-                "It moves to the rear with a full allotment, less its debt; for a best-effort thread it is as a tick.",
+                "It moves to the rear with a full allotment, less its debt; a best-effort thread stays runnable, as after a tick.",
             ),
             one(
                 "REASON_EXIT",
