@@ -48,7 +48,10 @@ impl Thread {
     pub fn is_effort(self) -> bool
         ensures { λ r. ⌜ r ≡ isEffort self ⌝ }
     {
-        (0 < self.status) & !(0 < self.reservation)
+        if self.status == 0 {
+            return false;
+        }
+        self.reservation == 0
     }
 
     // The thread after a call to admit it as a best-effort one.
@@ -124,19 +127,17 @@ impl Efforts {
         if !t.is_effort() {
             return self;
         }
-        let count = self.count + 1;
-        if fair::comes_first(t.status == Thread::RUNNABLE, t.tag, self.best, self.least) {
-            return Self {
-                best: number,
-                least: t.tag,
-                count: count,
-            };
+        let mut more = self;
+        more.count = self.count + 1;
+        if t.status != Thread::RUNNABLE {
+            return more;
         }
-        Self {
-            best: self.best,
-            least: self.least,
-            count: count,
+        if fair::comes_first(t.tag, self.best, self.least) {
+            more.best = number;
+            more.least = t.tag;
+            return more;
         }
+        more
     }
 
     // What a dispatch takes that has passed over this many threads of the list up to the first runnable one, or 64.

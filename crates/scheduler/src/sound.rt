@@ -81,7 +81,10 @@ fn account_ok(t: Thread, meter: u64) -> bool
     if meter < anchor {
         return false;
     }
-    (t.ticks <= meter - admission) & (t.since <= meter - anchor)
+    if meter - admission < t.ticks {
+        return false;
+    }
+    t.since <= meter - anchor
 }
 
 // A number that stands in the list is that of a reserved thread.
@@ -100,9 +103,11 @@ fn listed_ok(t: Thread, m: u32, meter: u64) -> bool
     if !quota_ok(reservation, t.allotment, m) {
         return false;
     }
-    let paid = account_ok(t, meter);
+    if !account_ok(t, meter) {
+        return false;
+    }
     let g = t.group_or_weight as u32;
-    paid & (g < Scheduler::GROUPS)
+    g < Scheduler::GROUPS
 }
 
 // A number that does not stand in the list is free or that of a best-effort thread. Of the running one the rest is tested after the loop.

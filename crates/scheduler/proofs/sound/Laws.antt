@@ -3,14 +3,14 @@
 use Prim.Native.Nat.{ℕ, _+_, _*_, _≤_, _<_}
 use mathlib.Core.Path.{_≡_, refl, sym, subst, _∙_}
 use mathlib.Core.List.{List}
-use mathlib.Core.Bool.{Bool, true, false, cond, _&&_, _||_, and-false}
+use mathlib.Core.Bool.{Bool, true, false, not, cond, _&&_, _||_, and-false}
 use native.Mathlib.Omega.{arith}
 use lib.ListN.{length, getD, set, replicate, length-set, getD-replicate}
 use lib.Seq.{getD-set-same, getD-set-other}
-use lib.Dec.{T, leb, eqb}
+use lib.Dec.{T, ltb, leb, eqb}
 use mir.Syntax.{w64}
 use mir.Val.{Fits}
-use borrow.Author.Tests.{eqb-true, eqb-false, le-leb, lt-leb, leb-false}
+use borrow.Author.Tests.{eqb-true, eqb-false, eq-eqb, ne-eqb, ltb-true, ltb-false, le-leb, lt-leb, leb-false}
 use Rattle.base.specs.Checks.{within}
 use Rattle.base.proofs.Bools.{cases}
 
@@ -83,3 +83,10 @@ sized-add top more used t p v l h = record {
   size = length-set used p (getD used p 0 + v) ∙ t .size;
   small = λ g m. omega (arith, t .small g m, bump used p v g (omega (arith, t .size)), cond-le (eqb p g) v);
 }
+
+-- a number is 0 or above it
+pub none-above : (n : ℕ) → eqb n 0 ≡ not (ltb 0 n)
+none-above n =
+    cases (ltb 0 n)
+    (λ e. rw (e, ne-eqb n 0 (λ z. omega (arith, ltb-true 0 n e))))
+    (λ e. rw (e, eq-eqb n 0 (omega (arith, ltb-false 0 n e))))

@@ -26,7 +26,7 @@ use Rattle.scheduler.specs.State.{listed}
 use Rattle.scheduler.specs.Sound.{quotaOk, accountOk, threadIn, reservedIn}
 use Rattle.scheduler.specs.Inner.{given, listedOk, unlistedOk, Handed, ListSeen, Small, entriesOk, tagged, entryOk}
 use Rattle.scheduler.specs.Inner.{turnOk, threadsOk, ThreadsPass}
-use Rattle.scheduler.proofs.sound.Laws.{same, bump, Sized, sized-none, sized-more, sized-add}
+use Rattle.scheduler.proofs.sound.Laws.{none-above, same, bump, Sized, sized-none, sized-more, sized-add}
 
 -- what `listedOk` says
 pub record Numbers (t : Thread) : Type 0 where
@@ -62,13 +62,6 @@ numbers-of m meter t e =
       least = quota-most m t o;
       low = ltb→lt (groupOf t) 16 (and-r a l (and-r q (a && l) k));
     }
-
--- a number is 0 or above it
-none-above : (n : ℕ) → eqb n 0 ≡ not (ltb 0 n)
-none-above n =
-    cases (ltb 0 n)
-    (λ e. rw (e, ne-eqb n 0 (λ z. omega (arith, ltb-true 0 n e))))
-    (λ e. rw (e, eq-eqb n 0 (omega (arith, ltb-false 0 n e))))
 
 -- An entry's test by its parts: the status, whether the thread is admitted and has a reservation, its quota, its group, its account and its
 -- tag. Outside the list and in it, it is what the code tests there.

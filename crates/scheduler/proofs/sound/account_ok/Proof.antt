@@ -10,13 +10,19 @@ returns c = rw (lt-leb _ _ (c .if1 .taken))
 returns-2 : tie.Need-returns-2
 returns-2 c = rw (le-leb _ _ (c .before .if1 .left), lt-leb _ _ (c .if2 .taken))
 
-sub-result : tie.Need-sub-result
-sub-result c = omega arith
+sub-if3 : tie.Need-sub-if3
+sub-if3 c = omega arith
 
 returns-3 : tie.Need-returns-3
 returns-3 c =
-    let i1 = c .before .before .before .if1 in
-    rw (le-leb _ _ (i1 .left), le-leb _ _ (c .before .before .if2 .left))
+    let i2 = c .before .before in
+    rw (le-leb _ _ (i2 .before .if1 .left), le-leb _ _ (i2 .if2 .left), lt-leb _ _ (c .if3 .taken))
+
+returns-4 : tie.Need-returns-4
+returns-4 c =
+    let i3 = c .before in
+    let i2 = i3 .before .before in
+    rw (le-leb _ _ (i2 .before .if1 .left), le-leb _ _ (i2 .if2 .left), le-leb _ _ (i3 .if3 .left))
 
 pub account-ok-spec : {M : Type 1} → statement M
-account-ok-spec = tie.close (tie.spec returns returns-2 sub-result returns-3)
+account-ok-spec = tie.close (tie.spec returns returns-2 sub-if3 returns-3 returns-4)

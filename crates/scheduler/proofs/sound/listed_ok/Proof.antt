@@ -52,15 +52,30 @@ returns-3 c = rw (valid (c .before .before .before .before), sym (quota (c .befo
 account-ok-requires : tie.Need-account-ok-requires
 account-ok-requires c κs = tt
 
+returns-4 : tie.Need-returns-4
+returns-4 c =
+    let a = c .before in
+    let q = a .before .before in
+    rw (
+      valid (q .before .before .before),
+      sym (quota q) ∙ not-false _ (a .before .if3 .left),
+      sym (a .account-ok .ensures) ∙ not-true _ (c .if4 .taken),
+    )
+
 cast-g : tie.Need-cast-g
 cast-g c = search needs
 
-returns-4 : tie.Need-returns-4
-returns-4 c =
-    let q = c .before .before .before in
-    rw (valid (q .before .before .before), c .before .account-ok .ensures, sym (quota q) ∙ not-false _ (c .before .before .if3 .left))
+returns-5 : tie.Need-returns-5
+returns-5 c =
+    let a = c .before .before in
+    let q = a .before .before in
+    rw (
+      valid (q .before .before .before),
+      sym (quota q) ∙ not-false _ (a .before .if3 .left),
+      sym (a .account-ok .ensures) ∙ not-false _ (c .before .if4 .left),
+    )
 
 pub listed-ok-spec : {M : Type 1} → statement M
 listed-ok-spec =
     tie.close
-    (tie.spec returns returns-2 cast-reservation quota-ok-requires returns-3 account-ok-requires cast-g returns-4)
+    (tie.spec returns returns-2 cast-reservation quota-ok-requires returns-3 account-ok-requires returns-4 cast-g returns-5)
