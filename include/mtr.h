@@ -90,24 +90,24 @@
  *
  *     call                     stack    instructions
  *     mtr_start                 3320            3228
- *     mtr_open                 13664            5440
- *     mtr_close                13648            5421
- *     mtr_admit                13600            5431
- *     mtr_admit_best_effort    13520            5230
- *     mtr_remove               13648            5492
- *     mtr_wake                 13520            5265
- *     mtr_dispatch             16544            7241
- *     mtr_report               13648            5598
- *     mtr_change               13648            5463
- *     mtr_sound                 7008            4533
+ *     mtr_open                 13464            5017
+ *     mtr_close                13448            4995
+ *     mtr_admit                13400            5016
+ *     mtr_admit_best_effort    13320            4815
+ *     mtr_remove               13448            5063
+ *     mtr_wake                 13320            4827
+ *     mtr_dispatch             13320            6001
+ *     mtr_report               13448            5183
+ *     mtr_change               13448            5037
+ *     mtr_sound                 6808            4107
  *     mtr_priority                16               8
- *     mtr_subtree               8764            7244
+ *     mtr_subtree               8764            6818
  *     mtr_priority_under         564            1771
- *     mtr_lag                  13520            5247
- *     mtr_share                13512            5248
- *     mtr_roster               16368           32094
+ *     mtr_lag                  13320            4821
+ *     mtr_share                13312            4822
+ *     mtr_roster               16168           32002
  *     mtr_write_block            824            3192
- *     mtr_read_block            1220            3816
+ *     mtr_read_block            1220            3809
  */
 #ifndef MTR_H
 #define MTR_H
@@ -310,8 +310,8 @@ typedef enum mtr_reason MTR_UNSIGNED {
     /* It blocks until it is woken. */
     MTR_REASON_BLOCK = 1,
     /*
-     * It moves to the rear with a full allotment, less its debt; for a
-     * best-effort thread it is as a tick.
+     * It moves to the rear with a full allotment, less its debt; a best-effort
+     * thread stays runnable, as after a tick.
      */
     MTR_REASON_YIELD = 2,
     /* It leaves the list and frees its number. */
@@ -808,8 +808,8 @@ MTR_MUST_USE static inline mtr_answer mtr_admit(mtr_scheduler *state,
 
 /*
  * Admits a best-effort thread with a weight: runnable, in no group and outside
- * the list. It runs while no reserved thread is runnable, and shares that time
- * with the other best-effort threads by weight.
+ * the list. It is dispatched only if no reserved thread is runnable, and shares
+ * that time with the other best-effort threads by weight.
  *
  * Refuses, the first that applies:
  *   16 MTR_REFUSED_UNSOUND: the state is not sound

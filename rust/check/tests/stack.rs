@@ -1,8 +1,8 @@
 //! The stack that a call takes, measured on a painted stack: below its limit, and as it is stated.
 
-/// No call takes more than this, and a dispatch and a roster not more than that.
+/// No call takes more than this, and a roster not more than that.
 const MOST: usize = 14_000;
-const MOST_OF_TWO: usize = 17_000;
+const MOST_OF_ROSTER: usize = 17_000;
 
 /// What the header's table and docs/PERFORMANCE.md may state above what is measured.
 const SPARE: usize = 600;
@@ -24,7 +24,7 @@ fn within_its_limit() {
     assert_eq!(measured.len(), 19);
     for (name, taken) in &measured {
         let most = match *name {
-            "dispatch" | "roster" => MOST_OF_TWO,
+            "roster" => MOST_OF_ROSTER,
             _ => MOST,
         };
         assert!(

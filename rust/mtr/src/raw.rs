@@ -153,8 +153,8 @@ pub const REFUSED_TABLE_COVER: u32 = 23;
 pub const REASON_TICK: u64 = 0;
 /// It blocks until it is woken.
 pub const REASON_BLOCK: u64 = 1;
-/// It moves to the rear with a full allotment, less its debt; for a best-effort
-/// thread it is as a tick.
+/// It moves to the rear with a full allotment, less its debt; a best-effort
+/// thread stays runnable, as after a tick.
 pub const REASON_YIELD: u64 = 2;
 /// It leaves the list and frees its number.
 pub const REASON_EXIT: u64 = 3;
@@ -618,8 +618,9 @@ unsafe extern "C" {
     ) -> Reply;
 
     /// Admits a best-effort thread with a weight: runnable, in no group and
-    /// outside the list. It runs while no reserved thread is runnable, and
-    /// shares that time with the other best-effort threads by weight.
+    /// outside the list. It is dispatched only if no reserved thread is
+    /// runnable, and shares that time with the other best-effort threads by
+    /// weight.
     ///
     /// Refuses, the first that applies:
     /// - 16 [`REFUSED_UNSOUND`]: the state is not sound
