@@ -6,7 +6,6 @@ use model::rule::{
     Reply, Scheduler, Thread, BLOCK, BLOCKED, EXIT, NONE, RUNNABLE, TAG_UNIT, TICK, WEIGHT_MOST,
     YIELD,
 };
-use std::fmt;
 
 /// A random call as the model's, but that reserved threads mostly block and stay so. Best-effort threads then run.
 pub fn quiet_call(r: &mut Rng, s: &Scheduler) -> Call {
@@ -315,35 +314,6 @@ impl BestEffort {
             *count += is(&made) as u64;
         }
     }
-
-    /// Adds what occurred elsewhere.
-    pub fn join(&mut self, other: &BestEffort) {
-        for (count, more) in self.0.iter_mut().zip(other.0) {
-            *count += more;
-        }
-    }
-
-    /// How often the sort of this name occurred.
-    ///
-    /// # Panics
-    ///
-    /// If there is none.
-    pub fn count(&self, name: &str) -> u64 {
-        let at = SORTS.iter().position(|(sort, _)| *sort == name);
-        self.0[at.unwrap_or_else(|| panic!("no sort {name}"))]
-    }
-
-    /// The sorts that occurred less often than this.
-    pub fn rarer(&self, times: u64) -> Vec<&'static str> {
-        let counted = self.0.iter().zip(SORTS);
-        let rare = counted.filter(|(&count, _)| count < times);
-        rare.map(|(_, (name, _))| name).collect()
-    }
 }
 
-impl fmt::Debug for BestEffort {
-    fn fmt(&self, f: &mut fmt::Formatter) -> fmt::Result {
-        let names = SORTS.iter().map(|(name, _)| name);
-        f.debug_map().entries(names.zip(&self.0)).finish()
-    }
-}
+counts_of!(BestEffort, SORTS);

@@ -2,7 +2,6 @@
 
 use model::calls::Call;
 use model::rule::{Scheduler, Thread, BLOCKED, NONE, WHOLE};
-use std::fmt;
 
 /// A change on a sound state, the thread's numbers being those before it.
 pub struct Change {
@@ -130,38 +129,9 @@ impl Changes {
             *count += is(&change) as u64;
         }
     }
-
-    /// Adds what occurred elsewhere.
-    pub fn join(&mut self, other: &Changes) {
-        for (count, more) in self.0.iter_mut().zip(other.0) {
-            *count += more;
-        }
-    }
-
-    /// How often the sort of this name occurred.
-    ///
-    /// # Panics
-    ///
-    /// If there is none.
-    pub fn count(&self, name: &str) -> u64 {
-        let at = SORTS.iter().position(|(sort, _)| *sort == name);
-        self.0[at.unwrap_or_else(|| panic!("no sort {name}"))]
-    }
-
-    /// The sorts that occurred less often than this.
-    pub fn rarer(&self, times: u64) -> Vec<&'static str> {
-        let counted = self.0.iter().zip(SORTS);
-        let rare = counted.filter(|(&count, _)| count < times);
-        rare.map(|(_, (name, _))| name).collect()
-    }
 }
 
-impl fmt::Debug for Changes {
-    fn fmt(&self, f: &mut fmt::Formatter) -> fmt::Result {
-        let names = SORTS.iter().map(|(name, _)| name);
-        f.debug_map().entries(names.zip(&self.0)).finish()
-    }
-}
+counts_of!(Changes, SORTS);
 
 fn change(s: &Scheduler, number: u64, amount: u64, answer: u32) -> Change {
     let t = s.threads.get(number as usize);

@@ -19,6 +19,9 @@
 
 #![deny(unsafe_op_in_unsafe_fn)]
 
+#[macro_use]
+mod sorts;
+
 pub mod attack;
 pub mod best_effort;
 pub mod bytes;
