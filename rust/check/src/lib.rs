@@ -2,6 +2,7 @@
 //!
 //! - [`compare`]: a call on both sides, asserted equal.
 //! - [`bytes`]: the bytes that cross the boundary.
+//! - [`blocks`]: blocks written and read on both sides.
 //! - [`share`]: a share by its meaning, and what occurred of shares.
 //! - [`late`]: what occurred of overruns.
 //! - [`changes`]: what occurred of changes of a reservation.
@@ -24,6 +25,7 @@ mod sorts;
 
 pub mod attack;
 pub mod best_effort;
+pub mod blocks;
 pub mod bytes;
 pub mod changes;
 pub mod compare;

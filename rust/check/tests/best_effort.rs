@@ -3,11 +3,11 @@
 //! the records of kind 10 in blocks and through `mtrrun` and `mtrwhy`.
 
 use check::best_effort::{quiet_call, BestEffort};
+use check::blocks::{block, plain, plain_records, replayed, with_byte, UNUSED};
 use check::bytes;
-use check::compare::{both, sound, start, to_library, to_library_record, to_model_entry};
-use check::journal;
-use check::program::{answered, printed, Folder};
-use model::blocks::{check, kind, read_block, write_block, Record, BLOCK as BLOCK_BYTES, RECORD};
+use check::compare::{both, sound, start, to_library, to_model_entry};
+use check::program::{answered, Folder};
+use model::blocks::{kind, Record, RECORD};
 use model::calls::{record, Call};
 use model::random::{broken_states, edge_value, hostile_state, sound_state, Rng};
 use model::rule::{
@@ -794,25 +794,6 @@ fn the_worked_example() {
     assert_eq!(rows, wanted);
 }
 
-/// Writes a block on both sides and reads it.
-fn block(number: u32, records: &[Record]) -> [u8; BLOCK_BYTES] {
-    let (mut area, mut wanted) = ([0xaa; BLOCK_BYTES], [0x55; BLOCK_BYTES]);
-    let list: Vec<_> = records.iter().map(to_library_record).collect();
-    assert_eq!(numbers::write_block(&mut area, number, &list), 0);
-    assert_eq!(write_block(&mut wanted, number, records), 0);
-    assert!(area == wanted);
-    let found = numbers::read_block(&area, number);
-    assert!(bytes::of(&found) == bytes::found(0, records));
-    area
-}
-
-/// What the library, the model and `mtrrun` print for a journal.
-fn replayed(journal: &[u8]) -> String {
-    let text = journal::replay(journal).printed;
-    assert_eq!(printed(journal, &[1 << 20]), text.as_bytes());
-    text
-}
-
 /// As a journal: the same answers, and what `mtrwhy` names.
 #[test]
 fn the_worked_example_as_a_journal() {
@@ -844,64 +825,19 @@ fn the_worked_example_as_a_journal() {
     }
 }
 
-/// A block with one byte of a record set, under a right check.
-fn with_byte(mut block: [u8; BLOCK_BYTES], place: usize, byte: u8) -> [u8; BLOCK_BYTES] {
-    block[14 + place] = byte;
-    let mut body = [0; 510];
-    body.copy_from_slice(&block[..510]);
-    block[510..].copy_from_slice(&check(&body));
-    block
-}
-
-/// Places of a record of kind 10 that are zero, the last four in no kind's use.
-const UNUSED: [usize; 12] = [2, 3, 6, 7, 8, 9, 10, 11, 12, 13, 14, 15];
-
 fn effort(subject: u8, amount: u16) -> Record {
-    Record {
-        kind: kind::ADMIT_BEST_EFFORT,
-        subject,
-        amount,
-        ..Record::default()
-    }
+    plain(kind::ADMIT_BEST_EFFORT, subject, amount)
 }
 
-/// Every subject and many amounts in a block; every value of every unused byte gives 19, and so does writing one.
 #[test]
 fn records_of_kind_10() {
+    let amounts = [0, 1, 16, 17, 255, 256, 0x1234, u16::MAX];
+    plain_records(kind::ADMIT_BEST_EFFORT, &amounts);
     for subject in 0..=255 {
-        for amount in [0, 1, 16, 17, 255, 256, 0x1234, u16::MAX] {
-            let rec = effort(subject, amount);
-            assert_eq!(rec, record(weigh(subject.into(), amount.into())));
-            let area = block(7, &[effort(1, 2), rec]);
-            let [low, high] = amount.to_le_bytes();
-            let row = &area[14 + RECORD..14 + 2 * RECORD];
-            assert_eq!(row[..6], [10, subject, 0, 0, low, high]);
-            assert!(row[6..].iter().all(|&byte| byte == 0));
+        for amount in amounts {
+            let call = weigh(subject.into(), amount.into());
+            assert_eq!(effort(subject, amount), record(call));
         }
-    }
-    let good = block(3, &[effort(5, 16), effort(7, 1)]);
-    for place in UNUSED {
-        for byte in 1..=255 {
-            let area = with_byte(good, RECORD + place, byte);
-            let found = numbers::read_block(&area, 3);
-            assert!(bytes::of(&found) == bytes::found(19, &[]), "{place} {byte}");
-            assert_eq!(read_block(&area, 3), Err(19));
-        }
-        assert_eq!(with_byte(good, RECORD + place, 0), good);
-    }
-    let rec = effort(5, 16);
-    let formless = [
-        Record { group: 1, ..rec },
-        Record { reason: 1, ..rec },
-        Record { overrun: 1, ..rec },
-        Record { ticks: 1, ..rec },
-        Record { kind: 11, ..rec },
-    ];
-    for bad in formless {
-        let mut area = [7; BLOCK_BYTES];
-        let list = [rec, bad].map(|r| to_library_record(&r));
-        assert_eq!(numbers::write_block(&mut area, 3, &list), 19);
-        assert!(area == [7; BLOCK_BYTES]);
     }
 }
 

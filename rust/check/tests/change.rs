@@ -1,12 +1,11 @@
 //! A change of a reservation: every amount for every thread of states with nested and full groups, every allotment about the new quantum,
 //! the meter's limits, states that are not sound, the worked example, and the records of kind 9 in blocks and through `mtrrun`.
 
+use check::blocks::{block, plain, plain_records, replayed, with_byte, UNUSED};
 use check::bytes;
 use check::changes::Changes;
-use check::compare::{both, sound, start, to_library, to_library_record};
-use check::journal;
-use check::program::printed;
-use model::blocks::{check, kind, read_block, write_block, Record, BLOCK as BLOCK_BYTES, RECORD};
+use check::compare::{both, sound, start, to_library};
+use model::blocks::{kind, Record, RECORD};
 use model::calls::{record, Call};
 use model::random::{broken_states, edge_value, hostile_state, sound_state, Rng};
 use model::rule::{
@@ -533,86 +532,13 @@ fn the_worked_example() {
 }
 
 fn change(subject: u8, amount: u16) -> Record {
-    Record {
-        kind: kind::CHANGE,
-        subject,
-        amount,
-        ..Record::default()
-    }
+    plain(kind::CHANGE, subject, amount)
 }
 
-/// Writes a block on both sides and reads it.
-fn block(number: u32, records: &[Record]) -> [u8; BLOCK_BYTES] {
-    let (mut area, mut wanted) = ([0xaa; BLOCK_BYTES], [0x55; BLOCK_BYTES]);
-    let list: Vec<_> = records.iter().map(to_library_record).collect();
-    assert_eq!(numbers::write_block(&mut area, number, &list), 0);
-    assert_eq!(write_block(&mut wanted, number, records), 0);
-    assert!(area == wanted);
-    let found = numbers::read_block(&area, number);
-    assert!(bytes::of(&found) == bytes::found(0, records));
-    area
-}
-
-/// A block with one byte of a record set, under a right check.
-fn with_byte(mut block: [u8; BLOCK_BYTES], place: usize, byte: u8) -> [u8; BLOCK_BYTES] {
-    block[14 + place] = byte;
-    let mut body = [0; 510];
-    body.copy_from_slice(&block[..510]);
-    block[510..].copy_from_slice(&check(&body));
-    block
-}
-
-/// Places of a record of kind 9 that are zero, the last four in no kind's use.
-const UNUSED: [usize; 12] = [2, 3, 6, 7, 8, 9, 10, 11, 12, 13, 14, 15];
-
-/// Every subject and many amounts in a block; every value of every unused byte gives 19, and so does writing one.
 #[test]
 fn records_of_kind_9() {
-    for subject in 0..=255 {
-        for amount in [0, 1, 255, 256, 1_000, 1_001, 0x1234, u16::MAX] {
-            let rec = change(subject, amount);
-            let area = block(7, &[change(1, 2), rec]);
-            let [low, high] = amount.to_le_bytes();
-            let row = &area[14 + RECORD..14 + 2 * RECORD];
-            assert_eq!(row[..6], [9, subject, 0, 0, low, high]);
-            assert!(row[6..].iter().all(|&byte| byte == 0));
-        }
-    }
-    let good = block(3, &[change(5, 500), change(7, 100)]);
-    for place in UNUSED {
-        for byte in 1..=255 {
-            let area = with_byte(good, RECORD + place, byte);
-            let found = numbers::read_block(&area, 3);
-            assert!(bytes::of(&found) == bytes::found(19, &[]), "{place} {byte}");
-            assert_eq!(read_block(&area, 3), Err(19));
-        }
-        assert_eq!(with_byte(good, RECORD + place, 0), good);
-    }
-    let rec = change(5, 500);
-    let formless = [
-        Record { group: 1, ..rec },
-        Record { reason: 1, ..rec },
-        Record { overrun: 1, ..rec },
-        Record { ticks: 1, ..rec },
-        Record {
-            ticks: 1 << 31,
-            ..rec
-        },
-        Record { kind: 11, ..rec },
-    ];
-    for bad in formless {
-        let mut area = [7; BLOCK_BYTES];
-        let list = [rec, bad].map(|r| to_library_record(&r));
-        assert_eq!(numbers::write_block(&mut area, 3, &list), 19);
-        assert!(area == [7; BLOCK_BYTES]);
-    }
-}
-
-/// What the library, the model and `mtrrun` print for a journal.
-fn replayed(journal: &[u8]) -> String {
-    let text = journal::replay(journal).printed;
-    assert_eq!(printed(journal, &[1 << 20]), text.as_bytes());
-    text
+    let amounts = [0, 1, 255, 256, 1_000, 1_001, 0x1234, u16::MAX];
+    plain_records(kind::CHANGE, &amounts);
 }
 
 fn started(m: u16, p: u32) -> Record {

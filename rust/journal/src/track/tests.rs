@@ -7,9 +7,27 @@ mod fairness;
 use super::*;
 use crate::codec::{self, RECORDS};
 use crate::engine::{bound, Proved};
+use model::blocks;
 use model::calls::{self, Call};
 use model::random::{self, Rng};
 use model::rule::Scheduler;
+
+fn encode(text: &str) -> Vec<u8> {
+    crate::text::encode(text.as_bytes(), 0, false, &mut Progress::silent()).unwrap()
+}
+
+/// A record as the model takes it.
+fn of_model(record: &Record) -> blocks::Record {
+    blocks::Record {
+        kind: record.kind,
+        subject: record.subject,
+        group: record.group,
+        reason: record.reason,
+        amount: record.amount,
+        overrun: record.overrun,
+        ticks: record.ticks,
+    }
+}
 
 /// Checks each life as it ends against the spans, limits and changes handed out
 /// for it.

@@ -591,12 +591,10 @@ fn run_says_why() {
     assert!(lines[4].ends_with("# 2 11 0 0 0 nothing is running"));
 }
 
-#[test]
-fn a_change_with_other_fields_is_damage() {
-    // The thread in byte 1 of the record, the reservation in 4 and 5.
-    let change = record(kind::CHANGE, [5, 0, 0], 700, 0);
-    let good = blocks(&[&[change]]);
-    assert_eq!(good[14..20], [9, 5, 0, 0, 0xbc, 0x02]);
+/// A record with a thread in byte 1 and an amount in bytes 4 and 5, whose first six bytes are these.
+fn other_fields_are_damage(plain: Record, bytes: [u8; 6]) {
+    let good = blocks(&[&[plain]]);
+    assert_eq!(good[14..20], bytes);
     for at in 1..16 {
         let mut block = good.clone();
         block[14 + at] ^= 1;
@@ -608,16 +606,16 @@ fn a_change_with_other_fields_is_damage() {
         assert_eq!(encode(&text).unwrap(), block);
     }
     for wrong in [
-        record(kind::CHANGE, [5, 1, 0], 700, 0),
-        record(kind::CHANGE, [5, 0, 1], 700, 0),
-        record(kind::CHANGE, [5, 0, 0], 700, 1),
+        Record { group: 1, ..plain },
+        Record { reason: 1, ..plain },
+        Record { ticks: 1, ..plain },
         Record {
             overrun: 1,
-            ..change
+            ..plain
         },
         Record {
             kind: kind::BEST_EFFORT + 1,
-            ..change
+            ..plain
         },
     ] {
         assert_eq!(codec::write(0, &[wrong]), Err(19));
@@ -625,32 +623,15 @@ fn a_change_with_other_fields_is_damage() {
 }
 
 #[test]
+fn a_change_with_other_fields_is_damage() {
+    let change = record(kind::CHANGE, [5, 0, 0], 700, 0);
+    other_fields_are_damage(change, [9, 5, 0, 0, 0xbc, 0x02]);
+}
+
+#[test]
 fn an_admission_with_a_weight_and_other_fields_is_damage() {
-    // The thread in byte 1 of the record, the weight in 4 and 5.
     let admit = record(kind::BEST_EFFORT, [9, 0, 0], 259, 0);
-    let good = blocks(&[&[admit]]);
-    assert_eq!(good[14..20], [10, 9, 0, 0, 3, 1]);
-    for at in 1..16 {
-        let mut block = good.clone();
-        block[14 + at] ^= 1;
-        let (body, check) = block.split_at_mut(BLOCK - 2);
-        check.copy_from_slice(&model::blocks::check((&*body).try_into().unwrap()));
-        let text = decode(&block);
-        let used = [1, 4, 5].contains(&at);
-        assert_eq!(text.starts_with("damaged 0 19 #"), !used, "{at}: {text}");
-        assert_eq!(encode(&text).unwrap(), block);
-    }
-    for wrong in [
-        record(kind::BEST_EFFORT, [9, 1, 0], 3, 0),
-        record(kind::BEST_EFFORT, [9, 0, 1], 3, 0),
-        record(kind::BEST_EFFORT, [9, 0, 0], 3, 1),
-        Record {
-            overrun: 1,
-            ..admit
-        },
-    ] {
-        assert_eq!(codec::write(0, &[wrong]), Err(19));
-    }
+    other_fields_are_damage(admit, [10, 9, 0, 0, 3, 1]);
 }
 
 #[test]

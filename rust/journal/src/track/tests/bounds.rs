@@ -2,17 +2,12 @@
 //! other threads overran since the lag is counted, and nothing else.
 
 use super::*;
-use model::blocks;
 use model::rule::{BLOCK, EXIT, RUNNABLE, YIELD};
 
 const LATE: &str = "start thousandth 10 interval 1000 overrun 9\n\
     admit 1 group 0 reservation 10\nadmit 2 group 0 reservation 20\n\
     dispatch\nreport tick 109\ndispatch\nreport yield 205\n\
     dispatch\nreport block 91\ndispatch\nreport tick 200\nwake 1\n";
-
-fn encode(text: &str) -> Vec<u8> {
-    crate::text::encode(text.as_bytes(), 0, false, &mut Progress::silent()).unwrap()
-}
 
 #[derive(Default)]
 struct Seen {
@@ -148,15 +143,7 @@ impl Count {
     }
 
     fn record(&mut self, record: &Record, answered: u32) {
-        let r = blocks::Record {
-            kind: record.kind,
-            subject: record.subject,
-            group: record.group,
-            reason: record.reason,
-            amount: record.amount,
-            overrun: record.overrun,
-            ticks: record.ticks,
-        };
+        let r = of_model(record);
         let before = self.model;
         let n = record.subject as usize;
         if record.kind == kind::START && answered == answer::ACCEPTED {

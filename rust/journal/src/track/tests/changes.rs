@@ -12,10 +12,6 @@ const RAISED: &str = "start thousandth 100 interval 20000\n\
     change 1 reservation 50\ndispatch\nreport tick 2000\nwake 1\n\
     dispatch\nreport tick 3000\n";
 
-pub(super) fn encode(text: &str) -> Vec<u8> {
-    crate::text::encode(text.as_bytes(), 0, false, &mut Progress::silent()).unwrap()
-}
-
 #[derive(Default)]
 struct Seen {
     spans: Vec<Span>,

@@ -1,9 +1,7 @@
 //! What best-effort threads have of what is left, and how far two come apart,
 //! beside a count on the model's states.
 
-use super::changes::encode;
 use super::*;
-use model::blocks;
 use model::rule::RUNNABLE;
 
 fn surveyed(journal: &[u8], window: &Window) -> Survey {
@@ -139,15 +137,7 @@ impl Count {
     }
 
     fn record(&mut self, record: &Record) {
-        let r = blocks::Record {
-            kind: record.kind,
-            subject: record.subject,
-            group: record.group,
-            reason: record.reason,
-            amount: record.amount,
-            overrun: record.overrun,
-            ticks: record.ticks,
-        };
+        let r = of_model(record);
         let before = self.model;
         if calls::run(&mut self.model, &r).answer != answer::ACCEPTED {
             return;
