@@ -11,8 +11,7 @@ use Rattle.base.specs.Lists.{without, first, passed, sumBelow}
 use Rattle.scheduler.specs.declared.Thread.{Thread}
 use Rattle.scheduler.specs.declared.Scheduler.{Scheduler}
 use Rattle.scheduler.specs.State.{noThread, noGroup, stateOf, hasReservation, weightOf, threadAt, runnableAt, effortAt, tagAt}
-use Rattle.scheduler.specs.State.{quantum}
-use Rattle.scheduler.specs.State.{listed, withThread, withGroup, withList, withRun}
+use Rattle.scheduler.specs.State.{quantum, listed, withThread, withGroup, withList, withRun}
 use Rattle.scheduler.specs.Refusals.{Call, openGroup, closeGroup, admit, remove, wake, dispatch, report, change, admitEffort}
 
 -- moved to the rear: the others keep their mutual order (RULE 2.10), and so does what stands past the list's end

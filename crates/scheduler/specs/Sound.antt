@@ -10,11 +10,9 @@ use Rattle.scheduler.specs.declared.Settings.{Settings}
 use Rattle.scheduler.specs.declared.Thread.{Thread}
 use Rattle.scheduler.specs.declared.Scheduler.{Scheduler}
 use Rattle.scheduler.specs.State.{isRunnable, groupOf, weightOf, limitOf, threadAt, groupAt, admittedAt, runnableAt, reservedAt}
-use Rattle.scheduler.specs.State.{effortAt}
-use Rattle.scheduler.specs.State.{reservationAt, openAt, listed}
+use Rattle.scheduler.specs.State.{effortAt, reservationAt, openAt, listed, meterLimit, meterMost, sliceMost}
 use Rattle.quota.specs.Quota.{natOf}
 use Rattle.fair.specs.Tags.{tagUnit, tagOk}
-use Rattle.scheduler.specs.State.{meterLimit, meterMost, sliceMost}
 
 -- RULE 5.1, 1
 unfoldable pub settingsOk : Settings → Bool
