@@ -1,5 +1,5 @@
 /*
- * The move-to-rear list scheduler (MTR-LS), version 3.0.0, for C11 and C++11 or
+ * The move-to-rear list scheduler (MTR-LS), version 3.1.0, for C11 and C++11 or
  * later on x86-64.
  *
  * Written from the Rattle sources; do not edit. To renew it:
@@ -170,18 +170,18 @@ extern "C" {
 MTR_STRUCT(size_t, 8, 8);
 
 /* The version as text. */
-#define MTR_VERSION_TEXT "3.0.0"
+#define MTR_VERSION_TEXT "3.1.0"
 
 /* The version; mtr_version answers that of the library. */
 
 /* Major. */
 #define MTR_VERSION_MAJOR 3
 /* Minor. */
-#define MTR_VERSION_MINOR 0
+#define MTR_VERSION_MINOR 1
 /* Patch. */
 #define MTR_VERSION_PATCH 0
 /* One number: 10000 times the major, 100 times the minor, and the patch. */
-#define MTR_VERSION 30000
+#define MTR_VERSION 30100
 
 /* Numbers of threads, groups and rows, and the parts of a block. */
 
@@ -1081,8 +1081,8 @@ MTR_MUST_USE static inline mtr_answer mtr_share(const mtr_scheduler *state,
 
 /*
  * Fills a lent table with the record of every admitted thread, largest lag
- * first, equal lags by lower number. A best-effort thread's lag and allotment
- * are 0.
+ * first, equal lags by smaller reservation, then by lower number. A best-effort
+ * thread counts as a reservation of 0, and its lag and allotment are 0.
  *
  * Refuses, the first that applies:
  *   16 MTR_REFUSED_UNSOUND: the state is not sound

@@ -59,9 +59,10 @@ pub extern "C" fn mtr_by_value_share(state: Scheduler, number: u64) -> ShareLine
     }
 }
 
-// Fills a lent table with the record of every admitted thread, largest lag first, equal lags by lower number. A best-effort thread's lag
-// and allotment are 0. Refused: 16, the state is not sound; 17, the table is shorter than the number of threads. The table is then
-// unchanged. Accepted, the records past the last are unchanged. The state is unchanged.
+// Fills a lent table with the record of every admitted thread, largest lag first, equal lags by smaller reservation, then by lower number.
+// A best-effort thread counts as a reservation of 0, and its lag and allotment are 0. Refused: 16, the state is not sound; 17, the table
+// is shorter than the number of threads. The table is then unchanged. Accepted, the records past the last are unchanged. The state is
+// unchanged.
 #[no_mangle]
 pub extern "C" fn mtr_by_value_roster(state: Scheduler, table: &mut [Entry]) -> u32
     ensures { λ r. ⌜ (r ≡ rosterRefusal state (length (now (table .entry)))) × (now (table .exit) ≡ tableOf state (now (table .entry))) ⌝ }

@@ -358,9 +358,10 @@ static void best_effort_figures(void)
     size_t filled = 77;
     HOLD(mtr_roster(&state, table, 2, &filled) == MTR_REFUSED_LENGTH && filled == 77);
     HOLD(mtr_roster(&state, table, 4, &filled) == MTR_ACCEPTED && filled == 3 && memcmp(table + 3, &past, sizeof past) == 0);
-    HOLD(table[0].number == 5 && table[1].number == 40 && table[2].number == 41);
-    HOLD(table[1].state == MTR_ROSTER_BLOCKED && table[2].state == MTR_ROSTER_RUNNABLE);
-    HOLD(table[2].allotment == 0 && table[2].lag == 0 && table[2].share == share);
+    /* Equal lags: those that reserve nothing come first. */
+    HOLD(table[0].number == 40 && table[1].number == 41 && table[2].number == 5);
+    HOLD(table[0].state == MTR_ROSTER_BLOCKED && table[1].state == MTR_ROSTER_RUNNABLE);
+    HOLD(table[1].allotment == 0 && table[1].lag == 0 && table[1].share == share && table[2].lag == 0);
     CHANGED(MTR_ACCEPTED, remove, 40);
     HOLD(mtr_roster(&state, table, 2, &filled) == MTR_ACCEPTED && filled == 2);
     CHANGED(MTR_REFUSED_NO_ROOM, admit, 40, 0, 1);

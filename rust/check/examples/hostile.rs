@@ -60,6 +60,7 @@ fn main() {
     println!("{:?}", attack.changes);
     println!("{:?}", attack.best_effort);
     println!("{:?}", attack.shares);
+    println!("{:?}", attack.ties);
     println!("{:?}", attack.tables);
     let spent = begun.elapsed().as_secs_f64();
     println!("idle dispatches {}", attack.idle);

@@ -11,6 +11,7 @@ use crate::compare::{both, sound, start, to_library, to_library_record, to_model
 use crate::guard::{Guarded, Side};
 use crate::late::Late;
 use crate::share::Shares;
+use crate::ties::Ties;
 use model::accounts::Entry;
 use model::blocks::{check, fields, kind, read_block, write_block, Record, BLOCK, RECORDS};
 use model::calls::{self, record, recorded, Call};
@@ -211,7 +212,7 @@ fn listed(mut bytes: Bytes) -> Vec<u8> {
 }
 
 /// What a replay printed, what occurred of overruns, changes and best-effort threads
-/// in it, and the shares at its end.
+/// in it, and the shares and the equal lags at its end.
 #[derive(Clone, Debug, Default, PartialEq, Eq)]
 pub struct Replayed {
     pub printed: String,
@@ -219,6 +220,7 @@ pub struct Replayed {
     pub changes: Changes,
     pub best_effort: BestEffort,
     pub shares: Shares,
+    pub ties: Ties,
 }
 
 /// Replays a journal by the library's functions and by the model. Each block's reading, each call's answer and state and
@@ -248,7 +250,7 @@ pub fn replay(journal: &[u8]) -> Replayed {
         }
     }
     if let Some(state) = &state {
-        roster(&mut page, state);
+        roster(&mut page, state, &mut all.ties);
         accounts(state, &mut all.shares);
     }
     assert_eq!(all.printed.as_bytes(), model::replay::replay(journal));
@@ -315,12 +317,15 @@ fn run(state: &mut Option<Scheduler>, r: &Record, all: &mut Replayed) -> Reply {
 }
 
 /// The roster on both sides, into tables that are just long enough and one too short.
-fn roster(page: &mut Guarded, s: &Scheduler) {
+fn roster(page: &mut Guarded, s: &Scheduler, ties: &mut Ties) {
     const ENTRY: usize = size_of::<raw::Entry>();
     let threads = s.threads.iter().filter(|t| t.status != 0).count();
     for length in [threads, threads.saturating_sub(1)] {
         let mut wanted = vec![Entry::default(); length];
         let answer = s.roster(&mut wanted);
+        if length == threads {
+            ties.roster(s, &wanted);
+        }
         for side in [Side::Front, Side::Back] {
             let table = page.lend(side, &vec![0; ENTRY * length], 0xa5);
             // SAFETY: the page holds the table, which is aligned at both ends, and an entry is numbers.

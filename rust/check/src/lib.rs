@@ -7,6 +7,7 @@
 //! - [`late`]: what occurred of overruns.
 //! - [`changes`]: what occurred of changes of a reservation.
 //! - [`best_effort`]: what occurred of best-effort threads.
+//! - [`ties`]: the roster's order by its meaning, and what occurred of equal lags.
 //! - [`tables`]: what occurred of tables of priorities.
 //! - [`table_recipe`]: a table of priorities made of any bytes, and what both sides answer under it.
 //! - [`program`]: `mtrrun` and `mtrwhy`, run as they were built.
@@ -40,4 +41,5 @@ pub mod share;
 pub mod stack;
 pub mod table_recipe;
 pub mod tables;
+pub mod ties;
 pub mod why;

@@ -5,6 +5,7 @@ use check::changes::Changes;
 use check::compare::{both, start, to_library, to_model_entry};
 use check::late::Late;
 use check::share::to_nearest;
+use check::ties::Ties;
 use model::accounts::Entry;
 use model::calls::Call;
 use model::random::{call, edge_value, hostile_state, sound_state, Rng};
@@ -74,7 +75,8 @@ fn rosters_of_sound_states() {
     let mut r = Rng::new(61);
     let mut answers = [0u64; 18];
     let mut lengths = [[0u64; 2]; 71];
-    let (mut ties, mut negative, mut positive, mut blocked, mut running) = (0, 0, 0, 0, 0);
+    let mut ties = Ties::default();
+    let (mut negative, mut positive, mut blocked, mut running) = (0, 0, 0, 0);
     let (mut limit, mut largest, mut full) = (0, 0, 0);
     // Best-effort threads, those that run, and those with something in the entry's allotment.
     let mut others = [0u64; 3];
@@ -98,11 +100,7 @@ fn rosters_of_sound_states() {
 
         let rows = roster(&s, 64).unwrap();
         assert_eq!(rows.len(), count);
-        for pair in rows.windows(2) {
-            let (a, b) = (&pair[0], &pair[1]);
-            assert!(a.lag > b.lag || a.lag == b.lag && a.number < b.number);
-            ties += (a.lag == b.lag) as u64;
-        }
+        ties.roster(&s, &rows);
         for row in &rows {
             let n = row.number as usize;
             let t = &s.threads[n];
@@ -137,17 +135,18 @@ fn rosters_of_sound_states() {
             }
         }
     }
-    println!("largest lag on either side {largest}, ties {ties}");
+    println!("largest lag on either side {largest}, {ties:?}");
     assert!(answers[0] > 10_000 && answers[17] > 10_000);
     assert_eq!(answers.iter().filter(|&&n| n > 0).count(), 2);
     for (length, [filled, short]) in lengths.into_iter().enumerate() {
         assert!(filled > 0 && (length > 63) == (short == 0), "{length}");
     }
-    assert!([ties, negative, positive, blocked, running, limit, full]
+    assert!([negative, positive, blocked, running, limit, full]
         .iter()
         .all(|&n| n > 1_000));
     assert!(largest >= 999 * METER_LIMIT);
     assert!(others.iter().all(|&n| n > 1_000), "{others:?}");
+    assert!(ties.rarer(40).is_empty(), "{ties:?}");
 }
 
 /// 16 on a state that is not sound, 7 for a number that is not admitted.

@@ -790,7 +790,7 @@ fn the_worked_example() {
     assert_eq!(numbers::roster(to_library(&s), &mut table[..2]), 17);
     assert_eq!(numbers::roster(to_library(&s), &mut table), 0);
     let rows = table.map(|e| (e.number, e.state, e.allotment, e.share, e.lag));
-    let wanted = [(2, 0, 0, 329, 0), (5, 1, 28_000, 145, 0), (9, 2, 0, 526, 0)];
+    let wanted = [(2, 0, 0, 329, 0), (9, 2, 0, 526, 0), (5, 1, 28_000, 145, 0)];
     assert_eq!(rows, wanted);
 }
 

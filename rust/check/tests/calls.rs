@@ -348,7 +348,7 @@ fn listing() {
     }
     let mut table = [numbers::Entry::default(); 2];
     assert_eq!(numbers::roster(state, &mut table), 0);
-    assert_eq!(table.map(|e| (e.number, e.state)), [(5, 0), (7, 2)]);
+    assert_eq!(table.map(|e| (e.number, e.state)), [(7, 2), (5, 0)]);
 }
 
 #[test]

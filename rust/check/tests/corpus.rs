@@ -9,6 +9,7 @@ use check::program::{answered, printed, root, Folder};
 use check::share::Shares;
 use check::table_recipe::{compared, table};
 use check::tables::Tables;
+use check::ties::Ties;
 use check::why::{questions, rarer, sort_of, sorts, Named, Sort, Sorts};
 use model::blocks::read_block;
 use model::why::why;
@@ -48,6 +49,7 @@ fn the_corpus() {
     let (mut late, mut changes) = (Late::default(), Changes::default());
     let mut shares = Shares::default();
     let mut best_effort = BestEffort::default();
+    let mut ties = Ties::default();
     for (place, recipe) in &recipes {
         let case = case(recipe);
         let wanted = journal::replay(&case.journal);
@@ -57,6 +59,7 @@ fn the_corpus() {
         changes.join(&wanted.changes);
         best_effort.join(&wanted.best_effort);
         shares.join(wanted.shares);
+        ties.join(&wanted.ties);
         for line in wanted.printed.lines() {
             let words: Vec<&str> = line.split(' ').collect();
             match words[..] {
@@ -86,6 +89,12 @@ fn the_corpus() {
     // Shares rounded either way, halves too.
     println!("{shares:?}");
     assert!(shares.all(1), "{shares:?}");
+    // Equal lags of every sort, but for an allotment in a best-effort entry, which no journal makes.
+    println!("{ties:?}");
+    assert_eq!(
+        ties.rarer(1),
+        ["best-effort with an allotment in its entry"]
+    );
 }
 
 /// The tables of priorities that the recipes are as well: usable ones, and every cause of a refusal.

@@ -72,6 +72,9 @@ fn a_million_calls() {
     // Shares rounded either way, halves too.
     let shares = attack.shares;
     assert!(shares.all(100), "{shares:?}");
+    // Equal lags of every sort.
+    let ties = attack.ties;
+    assert!(ties.rarer(20).is_empty(), "{ties:?}");
     // At either guard page, areas of some length and of none.
     assert!(
         attack.areas.iter().flatten().all(|&n| n > 100),

@@ -1,5 +1,7 @@
 //! Lag, achieved share and the roster.
 
+use std::cmp::Reverse;
+
 use crate::rule::{answer, Scheduler, Thread, BLOCKED, FREE, THREADS};
 
 /// One thread record of the roster.
@@ -75,9 +77,10 @@ impl Scheduler {
         self.account(number).map(|t| share_of(t, self.meter))
     }
 
-    /// Fills the table with every admitted thread, largest lag first, equal
-    /// lags by lower number. A best-effort thread has no allotment: 0. Records past
-    /// the last stay as they were.
+    /// Fills the table with every admitted thread, largest lag first, equal lags
+    /// by smaller reservation and then by lower number. A best-effort thread has
+    /// neither allotment nor reservation: each counts as 0. Records past the last
+    /// stay as they were.
     pub fn roster(&self, table: &mut [Entry]) -> u32 {
         if !self.sound() {
             return answer::UNSOUND;
@@ -87,12 +90,20 @@ impl Scheduler {
             return answer::LENGTH;
         }
         let table = &mut table[..count];
+        // By thread number: what equal lags go by, the reservation that counts and
+        // below it the number.
+        let mut ranks = [0; THREADS];
         let mut filled = 0;
-        for n in 0..THREADS {
-            let t = &self.threads[n];
+        for (n, t) in self.threads.iter().enumerate() {
             if t.status == FREE {
                 continue;
             }
+            let (allotment, reservation) = if t.is_reserved() {
+                (t.allotment, t.reservation)
+            } else {
+                (0, 0)
+            };
+            ranks[n] = reservation as usize * THREADS + n;
             table[filled] = Entry {
                 number: n as u32,
                 state: if n as u32 == self.running {
@@ -100,13 +111,13 @@ impl Scheduler {
                 } else {
                     (t.status == BLOCKED) as u32
                 },
-                allotment: if t.is_reserved() { t.allotment } else { 0 },
+                allotment,
                 share: share_of(t, self.meter) as u32,
                 lag: lag_of(t, self.meter),
             };
             filled += 1;
         }
-        table.sort_unstable_by(|x, y| y.lag.cmp(&x.lag).then(x.number.cmp(&y.number)));
+        table.sort_unstable_by_key(|e| (Reverse(e.lag), ranks[e.number as usize % THREADS]));
         answer::ACCEPTED
     }
 }

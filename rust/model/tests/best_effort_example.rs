@@ -119,6 +119,7 @@ fn the_worked_example() {
     assert_eq!(s.roster(&mut table[..2]), 17);
     assert_eq!(s.roster(&mut table), 0);
     // 12,000, 55,000 and 70,000 of 137,000 ticks; 5 is owed half of the last 20,000.
+    // 2 and 9 both count as reservation 0, whatever their weights: by number.
     let rows = [
         row(5, 2, 38_000, 88, 10_000_000),
         row(2, 0, 0, 401, 0),

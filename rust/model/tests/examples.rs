@@ -66,7 +66,8 @@ fn the_listing() {
         share: 167,
         lag: -4_000_000,
     };
-    assert_eq!(table, [five, seven, mark]);
+    // Equal lags: 7 has the smaller reservation.
+    assert_eq!(table, [seven, five, mark]);
 }
 
 #[test]

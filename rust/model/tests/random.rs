@@ -370,9 +370,30 @@ fn old_journals() {
     assert!(changed > 500 && starts > 1000, "{changed} {starts}");
 }
 
+/// What puts a roster's record before the next one: 0 the larger lag, 1 the smaller
+/// reservation, 2 the lower number; 3 and 4 for 1 and 2 in a best-effort thread.
+fn deciding(s: &Scheduler, one: &Entry, next: &Entry) -> usize {
+    let [first, second] = [one, next].map(|e| {
+        let t = &s.threads[e.number as usize];
+        t.reservation * t.is_reserved() as u16
+    });
+    let best_effort = 2 * (first == 0) as usize;
+    if one.lag != next.lag {
+        assert!(one.lag > next.lag);
+        0
+    } else if first != second {
+        assert!(first < second);
+        1 + best_effort
+    } else {
+        assert!(one.number < next.number);
+        2 + best_effort
+    }
+}
+
 #[test]
 fn accounts_of_sound_states() {
     let mut r = Rng::new(6);
+    let mut decided = [0u32; 5];
     // Shares by where they lie: at the quotient, below it, above it; and halves.
     let (mut places, mut halves) = ([0u32; 3], 0);
     for _ in 0..5_000 {
@@ -390,10 +411,7 @@ fn accounts_of_sound_states() {
         let (rows, rest) = table.split_at(count);
         assert!(rest.iter().all(|e| *e == mark));
         for pair in rows.windows(2) {
-            assert!(
-                pair[0].lag > pair[1].lag
-                    || pair[0].lag == pair[1].lag && pair[0].number < pair[1].number
-            );
+            decided[deciding(&s, &pair[0], &pair[1])] += 1;
         }
         for row in rows {
             let n = row.number as u64;
@@ -435,6 +453,8 @@ fn accounts_of_sound_states() {
     }
     assert!(places.iter().all(|&n| n > 10_000), "{places:?}");
     assert!(halves > 20, "{halves}");
+    println!("{decided:?}");
+    assert!(decided.iter().all(|&n| n > 1000), "{decided:?}");
 }
 
 /// Now and then a call that would end a premise is replaced: ticks are mostly

@@ -55,10 +55,10 @@ fn the_listing_by_calls() {
     assert_eq!((s.share(5), s.share(7)), (Ok(762), Ok(238)));
     runs(&mut s, 5, TICK, 18_000);
     assert_eq!(s.dispatch().thread, 7);
-    // 833.3 and 166.7 thousandths; equal lags, so by number.
+    // 833.3 and 166.7 thousandths; equal lags, so by smaller reservation.
     assert_eq!((s.lag(5), s.lag(7)), (Ok(-4_000_000), Ok(-4_000_000)));
     assert_eq!((s.share(5), s.share(7)), (Ok(833), Ok(167)));
-    assert_eq!(roster(&s), [(5, 833), (7, 167)]);
+    assert_eq!(roster(&s), [(7, 167), (5, 833)]);
 }
 
 #[test]
@@ -101,9 +101,10 @@ fn counted_from_admission() {
     assert_eq!(s.share(2), Ok(0));
 }
 
-/// The lags decide the roster's order, and the number where they are equal.
+/// The lags decide the roster's order, then the reservations, then the numbers;
+/// the shares never do.
 #[test]
-fn the_order_stays() {
+fn no_share_in_the_order() {
     let mut s = with(1, 20_000, 0, &[1, 3, 76, 200]);
     for (thread, quantum) in [(1, 1), (2, 3), (3, 76)] {
         runs(&mut s, thread, TICK, quantum);
@@ -119,15 +120,22 @@ fn the_order_stays() {
     }
     // 0, 12.5, 37.5 and 950 thousandths.
     assert_eq!(roster(&s), [(4, 0), (1, 12), (2, 38), (3, 950)]);
-    // Equal lags, the larger share first or last.
+    // Equal lags, the larger share first or last: of equal reservations 1 is
+    // first, of others the smaller one.
     for (one, two) in [((1, 0), (3, 2)), ((3, 2), (1, 0))] {
-        let mut s = with(1, 20_000, 0, &[10, 10]);
-        s.meter = 2000;
-        for (n, (ticks, _)) in [(1, one), (2, two)] {
-            (s.threads[n].anchor, s.threads[n].ticks) = (2000, ticks);
+        for (first, second) in [(10, 10), (10, 11), (11, 10)] {
+            let mut s = with(1, 20_000, 0, &[first, second]);
+            s.meter = 2000;
+            for (n, (ticks, _)) in [(1, one), (2, two)] {
+                (s.threads[n].anchor, s.threads[n].ticks) = (2000, ticks);
+            }
+            assert_eq!((s.lag(1), s.lag(2)), (Ok(0), Ok(0)));
+            let mut rows = [(1, one.1), (2, two.1)];
+            if first > second {
+                rows.reverse();
+            }
+            assert_eq!(roster(&s), rows);
         }
-        assert_eq!((s.lag(1), s.lag(2)), (Ok(0), Ok(0)));
-        assert_eq!(roster(&s), [(1, one.1), (2, two.1)]);
     }
 }
 

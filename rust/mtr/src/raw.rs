@@ -34,11 +34,11 @@ macro_rules! layout {
 /// Major.
 pub const VERSION_MAJOR: u32 = 3;
 /// Minor.
-pub const VERSION_MINOR: u32 = 0;
+pub const VERSION_MINOR: u32 = 1;
 /// Patch.
 pub const VERSION_PATCH: u32 = 0;
 /// One number: 10000 times the major, 100 times the minor, and the patch.
-pub const VERSION: u32 = 30000;
+pub const VERSION: u32 = 30100;
 
 // Numbers of threads, groups and rows, and the parts of a block.
 
@@ -787,7 +787,8 @@ unsafe extern "C" {
     pub safe fn mtr_by_value_share(state: Scheduler, number: u64) -> ShareLine;
 
     /// Fills a lent table with the record of every admitted thread, largest lag
-    /// first, equal lags by lower number. A best-effort thread's lag and
+    /// first, equal lags by smaller reservation, then by lower number. A
+    /// best-effort thread counts as a reservation of 0, and its lag and
     /// allotment are 0.
     ///
     /// Refuses, the first that applies:

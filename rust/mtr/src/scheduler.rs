@@ -294,7 +294,8 @@ impl Scheduler {
     }
 
     /// Fills a table with every admitted thread, largest lag first, equal lags
-    /// by lower number, and hands out the filled part. Entries past the last
+    /// by smaller reservation (a best-effort thread counts as 0), then by
+    /// lower number, and hands out the filled part. Entries past the last
     /// keep their contents. Refused with [`Length`](Refusal::Length) if the
     /// table is shorter than the number of threads.
     ///

@@ -290,7 +290,7 @@ fn changes_refused() {
     change(&mut s);
 }
 
-/// Lag and allotment are 0; the share is counted as of other threads.
+/// Lag and allotment are 0; the share is counted as of other threads. Of equal lags they come first.
 #[test]
 fn in_the_roster() {
     let mut s = with(&[(9, 500)]);
@@ -314,8 +314,8 @@ fn in_the_roster() {
     let wanted = [
         entry(2, ThreadState::Blocked, 0, 100),
         entry(4, ThreadState::Runnable, 0, 600),
-        entry(9, ThreadState::Runnable, 47_000, 300),
         entry(40, ThreadState::Runnable, 0, 0),
+        entry(9, ThreadState::Runnable, 47_000, 300),
     ];
     let mark = Entry {
         thread: 99,
@@ -331,7 +331,7 @@ fn in_the_roster() {
         assert_eq!(s.share(entry.thread), Ok(entry.share));
     }
 
-    // One that runs is shown so, and those that lag stand before it.
+    // One that runs is shown so. A reserved thread that has just been woken stands below them, and above one that reserves more.
     s.admit(10, 0, 100).unwrap();
     turn(&mut s, run(9, P, 0), Reason::Block, 100);
     turn(&mut s, run(10, 10_000, 1), Reason::Block, 100);
@@ -344,8 +344,8 @@ fn in_the_roster() {
     s.wake(10).unwrap();
     let roster = s.roster(&mut table).unwrap();
     let order: Vec<u8> = roster.iter().map(|e| e.thread).collect();
-    assert_eq!(order, [2, 4, 9, 10, 40]);
-    assert_eq!(roster[4].state, ThreadState::Running);
+    assert_eq!(order, [2, 4, 40, 10, 9]);
+    assert_eq!(roster[2].state, ThreadState::Running);
 }
 
 /// What is used beyond P is charged and counted in the tag.

@@ -124,8 +124,8 @@ fn roster_of_the_listing() {
         share,
     };
     let wanted = [
-        entry(5, ThreadState::Runnable, 50_000, 833),
         entry(7, ThreadState::Running, 10_000, 167),
+        entry(5, ThreadState::Runnable, 50_000, 833),
     ];
     assert_eq!(s.roster(&mut table), Ok(&wanted[..]));
     assert_eq!(table[2..], [mark; 2]);

@@ -43,14 +43,12 @@ impl Attack {
         let of = format_args!("of {length} {side:?}");
         self.same(15, of, found, answer);
         let after = self.page.contents(side, contents.len());
-        self.same(
-            15,
-            of,
-            after.chunks_exact(ENTRY).map(entry).collect(),
-            wanted,
-        );
+        let rows: Vec<_> = after.chunks_exact(ENTRY).map(entry).collect();
+        self.same(15, of, &rows, &wanted);
         if answer != 0 {
             self.same(15, of, after, contents);
+        } else {
+            self.ties.roster(&s, &rows[..threads as usize]);
         }
         self.same(
             15,

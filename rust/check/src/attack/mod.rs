@@ -19,13 +19,14 @@ use crate::guard::Guarded;
 use crate::late::Late;
 use crate::share::Shares;
 use crate::tables::Tables;
+use crate::ties::Ties;
 use classes::{allotment, limit, View, BROKEN, BROKEN_EACH};
 use inputs::{any_call, argument, settings};
 use model::calls::apply;
 use model::random::Rng;
 use model::rule::{priority, Scheduler};
 use mtr::raw::{self, LagLine, Mapped, Reply, ShareLine, Total};
-use states::{any_state, near_half, Broken};
+use states::{any_state, near_half, tied, Broken};
 use std::collections::BTreeMap;
 use std::fmt::{Debug, Display};
 
@@ -88,6 +89,8 @@ pub struct Attack {
     pub best_effort: BestEffort,
     /// Shares that were asked for one by one.
     pub shares: Shares,
+    /// Equal lags in rosters.
+    pub ties: Ties,
     /// Accepted dispatches that were idle.
     pub idle: u64,
     /// By priority, from 0 to the first above the table.
@@ -119,6 +122,7 @@ impl Attack {
             changes: Changes::default(),
             best_effort: BestEffort::default(),
             shares: Shares::default(),
+            ties: Ties::default(),
             idle: 0,
             priorities: [0; 12],
             tables: Tables::default(),
@@ -252,7 +256,12 @@ impl Attack {
                 }
                 answer
             }
-            15 => self.roster(r, state),
+            15 => {
+                if r.chance(1, 4) {
+                    tied(r, state);
+                }
+                self.roster(r, state)
+            }
             16 => self.write(r),
             17 => self.read(r),
             _ => self.under(r),

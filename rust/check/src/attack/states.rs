@@ -93,6 +93,30 @@ pub(super) fn near_half(r: &mut Rng, state: &mut raw::Scheduler, number: u64) {
     }
 }
 
+/// Gives threads one lag, of either sign, by their anchors and their ticks since: those that were admitted early enough for
+/// it. Reservations, blocked threads and best-effort ones stay as they are.
+pub(super) fn tied(r: &mut Rng, state: &mut raw::Scheduler) {
+    let meter = state.meter;
+    let growth = |t: &raw::Thread| meter.saturating_sub(t.admission);
+    let units = state.threads.iter().map(|t| growth(t) / 1000);
+    let Some(unit) = units.filter(|&unit| unit > 0).min() else {
+        return;
+    };
+    if meter > METER_MAX {
+        return;
+    }
+    let unit = r.edgy(1, unit);
+    let most = 1000 * unit;
+    // In thousands.
+    let lag = r.edgy(0, 2 * unit) as i64 - unit as i64;
+    for t in &mut state.threads {
+        let since = (t.reservation as u64 * unit) as i64 - lag;
+        if growth(t) >= most && (0..=most as i64).contains(&since) {
+            (t.anchor, t.since) = (meter - most, since as u64);
+        }
+    }
+}
+
 /// Bytes of the threads, which come first.
 const THREADS: u64 = 64 * size_of::<raw::Thread>() as u64;
 
