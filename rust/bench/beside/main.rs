@@ -73,7 +73,26 @@ macro_rules! version {
             }
 
             pub fn roster(n: u64) -> Side {
-                let state = grown(n);
+                rosters(grown(n))
+            }
+
+            /// New threads, so that all lags are 0, and with the same reservation.
+            pub fn equal(n: u64) -> Side {
+                rosters(threads(n))
+            }
+
+            /// The same with reservations that fall with the number.
+            pub fn falling(n: u64) -> Side {
+                let mut state = threads(n);
+                for (k, t) in (0..n).zip(&mut state.threads) {
+                    t.reservation = (1 + (n - 1 - k) * (960 / n) / n) as u16;
+                    t.allotment = 1;
+                }
+                assert_eq!($raw::$sound(state), 1);
+                rosters(state)
+            }
+
+            fn rosters(state: $raw::Scheduler) -> Side {
                 let mut table = [$raw::Entry::default(); 64];
                 Box::new(move || {
                     let table = black_box(&mut table);
@@ -187,6 +206,16 @@ fn main() {
     }
     for n in [2, 16, 64] {
         row(&format!("roster, {n}"), old::roster(n), new::roster(n));
+    }
+    for n in [2, 16, 64] {
+        row(&format!("equal lags, {n}"), old::equal(n), new::equal(n));
+    }
+    for n in [2, 16, 64] {
+        row(
+            &format!("falling reservations, {n}"),
+            old::falling(n),
+            new::falling(n),
+        );
     }
     row("write a full block", old::write(), new::write());
     row("read a full block", old::read(), new::read());

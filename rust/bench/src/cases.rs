@@ -8,7 +8,7 @@ use mtr::numbers;
 
 use crate::states::{
     above_groups, block_first, even_table, left_over, records, reservation, running, sloped,
-    threads, weight, worn, Shape,
+    threads, tiered, weight, worn, Shape,
 };
 
 /// The calls by their exported names without `mtr_by_value_`.
@@ -367,6 +367,8 @@ fn roster(of: Shape, cases: &mut Vec<Case>) {
     cases.push(on(threads(of), of, "equal lags", call));
     cases.push(on(sloped(of, true), of, "falling lags", call));
     cases.push(on(sloped(of, false), of, "rising lags", call));
+    cases.push(on(tiered(of, false), of, "rising reservations", call));
+    cases.push(on(tiered(of, true), of, "falling reservations", call));
 }
 
 fn blocks(write: bool) -> Vec<Case> {

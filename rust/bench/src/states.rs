@@ -139,6 +139,21 @@ pub fn sloped(of: Shape, falling: bool) -> Scheduler {
     s
 }
 
+/// Threads of equal lags whose reservations fall or rise with the number, those
+/// of best-effort ones aside: several have one reservation, since 64 different
+/// ones are more than there is.
+pub fn tiered(of: Shape, falling: bool) -> Scheduler {
+    let mut s = threads(of);
+    for k in 0..of.reserved() {
+        let place = if falling { of.reserved() - 1 - k } else { k };
+        let t = &mut s.threads[k as usize];
+        t.reservation = (1 + place * reservation(of.n) / of.n) as u16;
+        t.allotment = (t.reservation * s.settings.thousandth) as i32;
+    }
+    assert!(s.sound());
+    s
+}
+
 /// A table of priorities of 1, 2, 5 or 10 rows, each with as many priorities,
 /// from the lowest up or from the highest down.
 pub fn even_table(count: usize, down: bool) -> Table {

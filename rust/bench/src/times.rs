@@ -13,7 +13,7 @@ use mtr::{numbers, raw};
 use crate::plain;
 use crate::rounds::{measure, Side};
 use crate::states::{
-    block_first, even_table, records, reservation, sloped, threads, weight, worn, Shape,
+    block_first, even_table, records, reservation, sloped, threads, tiered, weight, worn, Shape,
 };
 
 fn line(name: &str, threads: &str, sides: Vec<Side>) {
@@ -388,6 +388,8 @@ pub fn print() {
     roster("roster", all, worn(all));
     roster("roster, lags falling", all, sloped(all, true));
     roster("roster, lags rising", all, sloped(all, false));
+    roster("roster, lags equal", all, threads(all));
+    roster("roster, reservations falling", all, tiered(all, true));
     roster("roster", both, worn(both));
     blocks();
 }
