@@ -1,12 +1,14 @@
 //! Journals of earlier versions: `mtrrun` and the model's replay print for each, to the byte, what the `mtrrun` of its version printed, and
 //! `mtrwhy` answers as the model does, and as the `mtrwhy` of the version did where it had one.
-//! Those of 1.1.0 are from before there was an overrun limit, those of 2.0.0 from before there was a change of a reservation, and those of
-//! 2.4.0 from before there were best-effort threads. The README.md in each folder says where they are from.
+//! Those of 1.1.0 are from before there was an overrun limit, those of 2.0.0 from before there was a change of a reservation, those of
+//! 2.4.0 from before there were best-effort threads, and those of 3.0.0 from before the roster went by reservations. The README.md in each
+//! folder says where they are from.
 
 use std::collections::BTreeMap;
 use std::fs;
 use std::path::PathBuf;
 
+use check::best_effort::BestEffort;
 use check::changes::Changes;
 use check::journal;
 use check::late::Late;
@@ -18,14 +20,16 @@ use model::replay::{replay, replay_with};
 use model::why::why;
 
 /// The folders, with how many journals are in each.
-const FOLDERS: [(&str, usize); 3] = [
+const FOLDERS: [(&str, usize); 4] = [
     (BEFORE_OVERRUNS, 40),
     (BEFORE_CHANGES, 20),
     (BEFORE_BEST_EFFORT, 31),
+    (BEFORE_THIN_ONES, 21),
 ];
 const BEFORE_OVERRUNS: &str = "journals-1.1";
 const BEFORE_CHANGES: &str = "journals-2.0";
 const BEFORE_BEST_EFFORT: &str = "journals-2.4";
+const BEFORE_THIN_ONES: &str = "journals-3.0";
 
 /// The files of a folder with this ending, by name.
 fn stored(folder: &str, ending: &str) -> BTreeMap<String, Vec<u8>> {
@@ -115,20 +119,28 @@ fn the_same_causes() {
         }
     }
     println!("{seen:?}");
-    let mut rare = rarer(&seen, 3);
-    rare.retain(|sort| !sort.of_best_effort());
-    assert!(rare.is_empty(), "{seen:?}");
+    assert!(rarer(&seen, 3).is_empty(), "{seen:?}");
 }
 
-/// What the `mtrwhy` of 2.4.0 printed for every number of its journals: `mtrwhy` and the model print the same.
+/// What the `mtrwhy` of 2.4.0 and that of 3.0.0 printed for every number of their journals: `mtrwhy` and the model print the same.
 #[test]
 fn the_same_causes_as_before() {
+    let before = as_before(BEFORE_BEST_EFFORT);
+    let mut rare = rarer(&before, 10);
+    rare.retain(|sort| !sort.of_best_effort());
+    assert!(rare.is_empty(), "{before:?}");
+    let since = as_before(BEFORE_THIN_ONES);
+    assert!(rarer(&since, 2).is_empty(), "{since:?}");
+}
+
+/// Holds what `mtrwhy` and the model print to what is stored, and counts the sorts.
+fn as_before(folder: &str) -> Sorts {
     let mut seen = Sorts::new();
-    let journals = stored(BEFORE_BEST_EFFORT, "blocks");
-    let causes = stored(BEFORE_BEST_EFFORT, "why");
+    let journals = stored(folder, "blocks");
+    let causes = stored(folder, "why");
     assert!(journals.keys().eq(causes.keys()));
     for (name, journal) in &journals {
-        let path = root().join(format!("rust/check/{BEFORE_BEST_EFFORT}/{name}.blocks"));
+        let path = root().join(format!("rust/check/{folder}/{name}.blocks"));
         let text = String::from_utf8(causes[name].clone()).unwrap();
         let sorts = sorts(journal);
         let mut numbers = 0;
@@ -143,52 +155,77 @@ fn the_same_causes_as_before() {
         }
         assert_eq!(numbers, 31 * journal.len().div_ceil(BLOCK) + 1);
     }
-    println!("{seen:?}");
-    let mut rare = rarer(&seen, 10);
-    rare.retain(|sort| !sort.of_best_effort());
-    assert!(rare.is_empty(), "{seen:?}");
+    println!("{folder}: {seen:?}");
+    seen
 }
 
-/// They are old: no start of the first has an overrun limit, neither these nor the second have a change, and none has a best-effort thread.
-/// Those of the second and the third have limits, and overruns of every kind; those of the third every kind of record that there was, and
-/// changes of every kind.
+/// What the journals of a folder have.
+#[derive(Default)]
+struct Found {
+    /// Starts without and with an overrun limit.
+    starts: [u32; 2],
+    kinds: Counts,
+    late: Late,
+    changes: Changes,
+    best_effort: BestEffort,
+}
+
+fn found(folder: &str) -> Found {
+    let mut found = Found::default();
+    for journal in stored(folder, "blocks").values() {
+        for record in records(journal) {
+            if record.kind == kind::START {
+                found.starts[(record.overrun > 0) as usize] += 1;
+            }
+            assert!(record.overrun == 0 || record.kind == kind::START);
+            *found.kinds.entry(record.kind.into()).or_default() += 1;
+        }
+        let replayed = journal::replay(journal);
+        found.late.join(&replayed.late);
+        found.changes.join(&replayed.changes);
+        found.best_effort.join(&replayed.best_effort);
+    }
+    println!("{folder}: {:?} {:?}", found.starts, found.kinds);
+    found
+}
+
+/// They are old: no start of the first has an overrun limit, neither these nor the second have a change, and none but the last has a
+/// best-effort thread. Each of the others has what its version had: limits and overruns of every kind, every kind of record, changes and
+/// best-effort threads of every sort.
 #[test]
 fn are_as_old_as_they_say() {
-    let mut starts = [0; 2];
-    let mut late = [Late::default(); 2];
-    let mut changes = Changes::default();
-    let mut kinds = Counts::new();
-    for (folder, _) in FOLDERS {
-        let last = folder == BEFORE_BEST_EFFORT;
-        for (name, journal) in stored(folder, "blocks") {
-            for record in records(&journal) {
-                assert!(record.kind <= kind::CHANGE, "{name}");
-                assert!(record.kind != kind::CHANGE || last, "{name}");
-                assert!(record.overrun == 0 || folder != BEFORE_OVERRUNS, "{name}");
-                if record.kind == kind::START {
-                    starts[(record.overrun > 0) as usize] += 1;
-                }
-                if last {
-                    *kinds.entry(record.kind.into()).or_default() += 1;
-                }
-            }
-            if folder != BEFORE_OVERRUNS {
-                let replayed = journal::replay(&journal);
-                late[last as usize].join(&replayed.late);
-                changes.join(&replayed.changes);
-            }
-        }
+    let of = FOLDERS.map(|(folder, _)| found(folder));
+    for (found, last) in of.iter().zip([8, 8, 9, 10]) {
+        assert!(
+            found.kinds.keys().copied().eq(1..=last),
+            "{:?}",
+            found.kinds
+        );
     }
-    assert!(starts[0] > 100 && starts[1] > 70, "{starts:?}");
-    for (late, least) in late.into_iter().zip([200, 80]) {
+    let starts = |k: usize| -> u32 { of.iter().take(3).map(|f| f.starts[k]).sum() };
+    assert!(of[0].starts[1] == 0 && starts(0) > 100 && starts(1) > 70);
+    for (found, least) in of[1..].iter().zip([200, 80, 40]) {
+        let late = found.late;
         assert!(late.all_reports(1) && late.all_starts(1), "{late:?}");
         assert!(late.overruns() > least, "{late:?}");
     }
-    println!("{kinds:?} {changes:?}");
-    assert!(kinds.keys().copied().eq(1..=9) && kinds.values().all(|&n| n > 20));
-    // What concerns best-effort threads is missing.
-    let rare = changes.rarer(1);
+    for (found, least) in of[2..].iter().zip([20, 50]) {
+        assert!(
+            found.kinds.values().all(|&n| n > least),
+            "{:?}",
+            found.kinds
+        );
+    }
+    // What concerns best-effort threads is missing from the third.
+    let rare = of[2].changes.rarer(1);
     assert!(rare.len() == 4 && rare.iter().all(|sort| sort.contains("best-effort")));
+    assert_eq!(of[3].changes.rarer(1), [] as [&str; 0]);
+    // What no journal of this length reaches: the meter's limit, and an allotment in a best-effort entry.
+    let never = [
+        "15 where one is runnable",
+        "reported with another allotment than 0 in its entry",
+    ];
+    assert_eq!(of[3].best_effort.rarer(1), never);
 }
 
 /// What is printed now for the block that has changes, and after it.
