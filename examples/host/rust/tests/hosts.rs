@@ -570,7 +570,26 @@ fn the_page() {
     assert!(changed.is_empty(), "{changed:?}");
 }
 
-/// README's shares of readout are those that the hosts print, and the commands of its section on idle time print what stands there.
+/// The commands of a section print what stands below them, and the lines of its table are among that, in order. Counts of both.
+fn holds(section: &str) -> (usize, usize) {
+    let (mut commands, mut answers) = (0, String::new());
+    for part in section.split("\n\n") {
+        let Some(example) = part.strip_prefix("    $ ") else {
+            continue;
+        };
+        let (command, below) = example.split_once('\n').unwrap();
+        let below: String = below.lines().map(|l| format!("{}\n", &l[4..])).collect();
+        assert_eq!(printed(command), below, "{command}");
+        commands += 1;
+        answers += &below;
+    }
+    let shown = shown(section);
+    in_order(&answers, &shown);
+    (commands, shown.len())
+}
+
+/// README's shares of readout are those that the hosts print, and the commands of its sections on idle time and on the roster print what
+/// stands there.
 fn readme(told: &str) {
     let readme = fs::read_to_string(root().join("README.md")).unwrap();
     let sections = sections(&readme);
@@ -585,18 +604,6 @@ fn readme(told: &str) {
         assert!(table.lines().any(|line| line == row), "{row}");
     }
 
-    let idle = sections["Report printing in idle time"];
-    let (mut commands, mut answers) = (0, String::new());
-    for part in idle.split("\n\n").filter(|part| part.starts_with("    $ ")) {
-        let mut lines = part.lines().map(|line| &line[4..]);
-        let command = lines.next().unwrap().strip_prefix("$ ").unwrap();
-        let below: String = lines.map(|line| format!("{line}\n")).collect();
-        assert_eq!(printed(command), below, "{command}");
-        commands += 1;
-        answers += &below;
-    }
-    assert_eq!(commands, 2);
-    let shown = shown(idle);
-    assert_eq!(shown.len(), 5, "{shown:?}");
-    in_order(&answers, &shown);
+    assert_eq!(holds(sections["Report printing in idle time"]), (2, 5));
+    assert_eq!(holds(sections["Small threads on top"]), (1, 4));
 }

@@ -86,7 +86,8 @@ const HEAD: &str = r#"/*
  * stay runnable, what each has run divided by its weight differs by at most
  * (P + O) / v + (P + O) / w: one longest run of each. The host reports, wakes and
  * removes them as it does the others. mtr_change refuses them with
- * MTR_REFUSED_NO_THREAD; in the roster their lag and their allotment are 0.
+ * MTR_REFUSED_NO_THREAD; in the roster their lag and their allotment are 0,
+ * and of equal lags they come first.
  *
  * Customers' priorities. A program that comes with a priority of 1 to 10 has the
  * reservation that mtr_priority answers, or that of the customer's own table: 1
