@@ -106,7 +106,7 @@
  *     mtr_priority_under         564            1771
  *     mtr_lag                  13320            4821
  *     mtr_share                13312            4822
- *     mtr_roster               16184           40265
+ *     mtr_roster               16184           41086
  *     mtr_write_block            824            3192
  *     mtr_read_block            1220            3809
  */

@@ -85,7 +85,7 @@ macro_rules! version {
             pub fn falling(n: u64) -> Side {
                 let mut state = threads(n);
                 for (k, t) in (0..n).zip(&mut state.threads) {
-                    t.reservation = (1 + (n - 1 - k) * (960 / n) / n) as u16;
+                    t.reservation = (1 + (n - 1 - k) * (2 * (960 / n) - 1) / n) as u16;
                     t.allotment = 1;
                 }
                 assert_eq!($raw::$sound(state), 1);

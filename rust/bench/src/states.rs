@@ -140,14 +140,14 @@ pub fn sloped(of: Shape, falling: bool) -> Scheduler {
 }
 
 /// Threads of equal lags whose reservations fall or rise with the number, those
-/// of best-effort ones aside: several have one reservation, since 64 different
-/// ones are more than there is.
+/// of best-effort ones aside, as many different ones as fit: from 1 to nearly
+/// twice the even share. 64 different ones are more than there is.
 pub fn tiered(of: Shape, falling: bool) -> Scheduler {
     let mut s = threads(of);
     for k in 0..of.reserved() {
         let place = if falling { of.reserved() - 1 - k } else { k };
         let t = &mut s.threads[k as usize];
-        t.reservation = (1 + place * reservation(of.n) / of.n) as u16;
+        t.reservation = (1 + place * (2 * reservation(of.n) - 1) / of.n) as u16;
         t.allotment = (t.reservation * s.settings.thousandth) as i32;
     }
     assert!(s.sound());

@@ -74,7 +74,7 @@ fn a_million_calls() {
     assert!(shares.all(100), "{shares:?}");
     // Equal lags of every sort.
     let ties = attack.ties;
-    assert!(ties.rarer(20).is_empty(), "{ties:?}");
+    assert!(ties.rarer(1_000).is_empty(), "{ties:?}");
     // At either guard page, areas of some length and of none.
     assert!(
         attack.areas.iter().flatten().all(|&n| n > 100),

@@ -38,7 +38,7 @@ fn shares(s: &Scheduler) -> [u64; 64] {
     assert!(table.iter().map(to_model_entry).eq(rows));
     let mut found = [0; 64];
     for (n, row) in table.iter().enumerate() {
-        // Every lag is 0, so by number.
+        // Every lag is 0, and every reservation the same, so by number.
         assert_eq!((row.number as usize, row.lag), (n, 0));
         assert_eq!(numbers::share(state, n as u64).result(), Ok(row.share));
         let (ticks, growth) = (s.threads[n].ticks, s.meter - s.threads[n].admission);

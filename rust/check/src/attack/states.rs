@@ -94,7 +94,7 @@ pub(super) fn near_half(r: &mut Rng, state: &mut raw::Scheduler, number: u64) {
 }
 
 /// Gives threads one lag, of either sign, by their anchors and their ticks since: those that were admitted early enough for
-/// it. Reservations, blocked threads and best-effort ones stay as they are.
+/// it. The lags of blocked threads and best-effort ones stay 0.
 pub(super) fn tied(r: &mut Rng, state: &mut raw::Scheduler) {
     let meter = state.meter;
     let growth = |t: &raw::Thread| meter.saturating_sub(t.admission);
