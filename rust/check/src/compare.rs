@@ -213,6 +213,20 @@ pub fn both(s: &mut Scheduler, call: Call) -> Reply {
     reply
 }
 
+/// An admission to group 0.
+pub fn admit(number: u64, reservation: u64) -> Call {
+    Call::Admit {
+        number,
+        group: 0,
+        reservation,
+    }
+}
+
+/// An admission of a best-effort thread.
+pub fn weigh(number: u64, weight: u64) -> Call {
+    Call::AdmitBestEffort { number, weight }
+}
+
 /// Starts both sides. A refused start has a state of zeros.
 pub fn start(m: u64, p: u64, o: u64) -> Result<Scheduler, u32> {
     let made = numbers::start(m, p, o);

@@ -5,7 +5,7 @@
 use check::best_effort::{quiet_call, BestEffort};
 use check::blocks::{block, plain, plain_records, replayed, with_byte, UNUSED};
 use check::bytes;
-use check::compare::{both, sound, start, to_library, to_model_entry};
+use check::compare::{admit, both, sound, start, to_library, to_model_entry, weigh};
 use check::program::{answered, Folder};
 use model::blocks::{kind, Record, RECORD};
 use model::calls::{record, Call};
@@ -23,18 +23,6 @@ fn accepted(s: &mut Scheduler, call: Call) -> Reply {
     let reply = both(s, call);
     assert_eq!(reply.answer, 0, "{call:?}");
     reply
-}
-
-fn admit(number: u64, reservation: u64) -> Call {
-    Call::Admit {
-        number,
-        group: 0,
-        reservation,
-    }
-}
-
-fn weigh(number: u64, weight: u64) -> Call {
-    Call::AdmitBestEffort { number, weight }
 }
 
 fn report(reason: u64, used: u64) -> Call {

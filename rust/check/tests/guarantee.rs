@@ -2,7 +2,7 @@
 
 use std::io::Write;
 
-use check::compare::{both, start, to_library};
+use check::compare::{admit, both, start, to_library, weigh};
 use model::calls::Call;
 use model::random::{call, sound_state, Rng};
 use model::rule::{Reply, Scheduler, BLOCKED, RUNNABLE};
@@ -361,18 +361,6 @@ fn step(s: &mut Scheduler, stretches: &mut Stretches, call: Call) -> Reply {
         stretches.follow(&before, call, reply, s);
     }
     reply
-}
-
-fn admit(number: u64, reservation: u64) -> Call {
-    Call::Admit {
-        number,
-        group: 0,
-        reservation,
-    }
-}
-
-fn weigh(number: u64, weight: u64) -> Call {
-    Call::AdmitBestEffort { number, weight }
 }
 
 fn change(number: u64, reservation: u64) -> Call {

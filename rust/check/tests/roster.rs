@@ -1,7 +1,7 @@
 //! The roster's order: larger lag first, of equal lags the smaller reservation, where a best-effort thread counts as 0, and then
 //! the lower number. The library beside the model, and beside the three comparisons.
 
-use check::compare::{both, start, to_library, to_model_entry};
+use check::compare::{admit, both, start, to_library, to_model_entry, weigh};
 use check::ties::Ties;
 use model::accounts::Entry;
 use model::calls::Call;
@@ -181,16 +181,4 @@ fn the_worked_example() {
     }
     assert_eq!(s.lag(1), Ok(-950_000));
     assert_eq!((s.lag(4), s.lag(6)), (Ok(100_000), Ok(100_000)));
-}
-
-fn admit(number: u64, reservation: u64) -> Call {
-    Call::Admit {
-        number,
-        group: 0,
-        reservation,
-    }
-}
-
-fn weigh(number: u64, weight: u64) -> Call {
-    Call::AdmitBestEffort { number, weight }
 }
