@@ -1,6 +1,0 @@
-pub mod Laws
-pub mod List
-pub mod Threads
-pub mod Groups
-pub mod Entries
-pub mod Whole
