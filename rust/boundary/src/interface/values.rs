@@ -59,6 +59,12 @@ impl Work<'_> {
                     }
                 }
             }
+            Value::Below { file, name: of } => {
+                let above = self.value(name, Value::Constant { file, name: of })?;
+                above
+                    .checked_sub(1)
+                    .ok_or_else(|| Error::at(OWN, 1, format!("{name} is one less than 0")))
+            }
             Value::Version => {
                 let mut value = 0;
                 for part in ["MAJOR", "MINOR", "PATCH"] {
