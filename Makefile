@@ -1,6 +1,7 @@
 # The front door: `make` lists the commands. Each is one line that can be typed as well.
 .POSIX:
-.PHONY: help check library quick gate count lint fmt test header dist bench journals instructions copies costs hostile fuzz coverage pictures
+.PHONY: help check library quick gate count lint fmt test header statements dist
+.PHONY: bench journals instructions copies costs hostile fuzz coverage pictures
 
 help: ## this list
 	@sed -n 's/^\([a-z]*\):.*## /\1	/p' Makefile | while IFS='	' read -r name text; do printf '  make %-14s%s\n' "$$name" "$$text"; done
@@ -36,6 +37,9 @@ test: target/staticlib/libabi.a ## the Rust tests (after make check: some run mt
 
 header: ## write include/mtr.h and rust/mtr/src/raw.rs from the Rattle sources
 	cargo run --offline --release -p boundary
+
+statements: target/staticlib/libabi.a ## write docs/statements.txt, what the theorems of docs/PROOFS.md say
+	cargo run --offline --release -p check --example statements
 
 dist: ## fill dist/, the folder to vendor
 	./dist.sh

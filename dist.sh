@@ -3,7 +3,8 @@
 # mtrrun and mtrwhy, with their manual pages, and journal for the bench; the example hosts and a customer's table of priorities; what was
 # proved; VERSION, KIT and SHA256SUMS.
 #   ./dist.sh [--no-build] [FOLDER]     FOLDER is dist/ if none is given; an earlier one is replaced
-# --no-build takes what stands in target/ as it is instead of proving and building it. The revision is git's, or $REVISION if it is set.
+# --no-build takes what stands in target/ as it is instead of proving and building it. PROVED.md cites the gate only for the commit and the
+# files that it tested. The revision is git's, or $REVISION if it is set.
 # After a failure FOLDER is as it was.
 set -u
 
@@ -59,19 +60,6 @@ version=$(sed -n 's/^version = "\([0-9][0-9.]*\)"$/\1/p' rust/mtr/Cargo.toml) ||
 revision=${REVISION-$(git describe --always --dirty --abbrev=40)} || fail "no revision: git describe failed; set REVISION"
 [ -n "$revision" ] || fail "no revision: REVISION is empty"
 kit=$(rt version) || fail "no kit's id: rt version failed"
-
-# What the gate counted, if it saw the commit that stands here and nothing else; its second line says what it saw.
-gate="was not run for this tree"
-if [ -f target/gate.txt ]; then
-    tree=$(git describe --always --dirty --abbrev=40 --exclude '*' 2>/dev/null) || tree=unknown
-    case $tree in
-    '' | unknown | *-dirty) ;;
-    *)
-        saw=$(sed -n 2p target/gate.txt) || fail "can't read target/gate.txt"
-        [ "$saw" != "tree: $tree" ] || gate=$(sed -n 1p target/gate.txt)
-        ;;
-    esac
-fi
 
 mkdir -p "$(dirname "$folder")" || fail "can't make the folder above $folder"
 new=$(mktemp -d "$folder.new.XXXXXX") || fail "can't make a folder beside $folder"
@@ -136,6 +124,38 @@ else()
 endif()
 END
 
+# What is packed and the gate did not test: its file has no such sum of it.
+untested() {
+    while read -r file packed; do
+        sum=$(sha256sum <"$new/$packed") || return
+        grep -qxF "${sum%% *}  $file" target/gate.txt || printf ' %s' "$packed"
+    done <<END
+$archive lib/libmtr.a
+target/bin/mtrrun bin/mtrrun
+target/bin/mtrwhy bin/mtrwhy
+target/cargo/release/journal bin/journal
+END
+}
+
+# What the gate counted, if it saw the commit that stands here and nothing else, which is the second line of its file, and tested what is
+# packed.
+gate="was not run for this tree"
+if [ -f target/gate.txt ]; then
+    tree=$(git describe --always --dirty --abbrev=40 --exclude '*' 2>/dev/null) || tree=unknown
+    saw=$(sed -n 2p target/gate.txt) || fail "can't read target/gate.txt"
+    case $tree:$saw in
+    :* | unknown:* | *-dirty:*) ;;
+    "$tree:tree: $tree")
+        gate=$(sed -n 1p target/gate.txt)
+        others=$(untested) || fail "can't take the sums of what is packed"
+        if [ -n "$others" ]; then
+            gate="was not run for these files:$others"
+            echo "dist.sh: the gate $gate; PROVED.md says so, without its count" >&2
+        fi
+        ;;
+    esac
+fi
+
 # The page of what is proved, under what this folder was made of. Its own title goes.
 {
     cat <<END && sed 1d docs/PROOFS.md
@@ -147,7 +167,7 @@ END
 | commit | $revision |
 | kit | $kit |
 | gate | $gate |
-| library | sha256 $(sha256sum <"$archive" | cut -d ' ' -f 1) |
+| library | sha256 $(sha256sum <"$new/lib/libmtr.a" | cut -d ' ' -f 1) |
 
 \`lib/libmtr.a\` is what the kit wrote after its checker had accepted every exported function and everything below it; \`bin/mtrrun\` and
 \`bin/mtrwhy\` are what it wrote of the programs. The gate checks all proofs from nothing, tries edits that must be refused, and runs the

@@ -147,7 +147,7 @@ fn what_was_proved() {
     let gate = page.lines().find_map(|l| l.strip_prefix("| gate | "));
     let gate = gate.unwrap().trim_end_matches(" |");
     let counted = gate.ends_with(" failed") && gate.contains(" passed, ");
-    assert!(counted || gate == "was not run for this tree", "{gate}");
+    assert!(counted || gate.starts_with("was not run for "), "{gate}");
     let proofs = committed("docs/PROOFS.md");
     let (_, rest) = proofs.split_once('\n').unwrap();
     assert!(page.ends_with(rest));

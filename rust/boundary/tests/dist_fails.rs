@@ -160,65 +160,146 @@ fn the_manifest() {
     repository.refuses("has no version");
 }
 
+/// What PROVED.md says of the gate.
+const RUN: &str = "5 passed, 0 failed";
+const NOT: &str = "was not run for this tree";
+
+impl Repository {
+    fn git(&self, words: &[&str]) -> String {
+        let mut git = Command::new("git");
+        git.env("GIT_CONFIG_GLOBAL", "/dev/null");
+        git.args(["-c", "user.name=a", "-c", "user.email=a@b", "-C"]);
+        printed(git.arg(&self.root).args(words))
+    }
+
+    /// Makes a commit of all but target/, and gives its number.
+    fn commit(&self) -> String {
+        self.git(&["init", "--quiet"]);
+        fs::write(self.root.join(".gitignore"), "target/\n").unwrap();
+        self.git(&["add", "."]);
+        self.git(&["commit", "--quiet", "-m", "a"]);
+        self.git(&["rev-parse", "HEAD"]).trim().to_string()
+    }
+
+    /// The sums of what is packed, as the gate writes them.
+    fn sums(&self) -> String {
+        let mut sums = Command::new("sha256sum");
+        sums.arg("target/staticlib/libabi.a").args(PROGRAMS);
+        printed(sums.current_dir(&self.root))
+    }
+
+    /// The gate's file: it counted, saw this and tested what has these sums.
+    fn gate(&self, saw: &str, sums: &str) {
+        let text = format!("{RUN}\n{saw}\n{sums}");
+        fs::write(self.root.join("target/gate.txt"), text).unwrap();
+    }
+
+    /// PROVED.md says this of the gate; what the script said on the way.
+    fn told(&self, text: &str) -> String {
+        let output = dist(&self.root, &self.target);
+        assert!(output.status.success(), "{}", said(&output));
+        let page = self.filled("PROVED.md");
+        assert!(page.contains(&format!("| gate | {text} |\n")), "{page}");
+        String::from_utf8(output.stderr).unwrap()
+    }
+}
+
 /// What the gate counted, if it saw the commit that stands there and no change to its files.
 #[test]
 fn the_gate() {
     let repository = Repository::whole("dist-gate");
-    let gate = repository.root.join("target/gate.txt");
-    let wrote = |tree: &str| fs::write(&gate, format!("5 passed, 0 failed\n{tree}")).unwrap();
-    let told = |text: &str| {
-        repository.fill();
-        let page = repository.filled("PROVED.md");
-        assert!(page.contains(&format!("| gate | {text} |\n")), "{page}");
-    };
-    let (run, not) = ("5 passed, 0 failed", "was not run for this tree");
+    let sums = repository.sums();
+    let wrote = |saw: &str| repository.gate(saw, &sums);
+    let told = |text: &str| assert_eq!(repository.told(text), "");
 
     // Where git says nothing, it was not run for the tree, whatever stands there.
     fs::write(repository.root.join(".git"), "no repository").unwrap();
-    told(not);
-    for tree in ["", "tree: \n", "tree: unknown\n"] {
-        wrote(tree);
-        told(not);
+    told(NOT);
+    for saw in ["", "tree: ", "tree: unknown"] {
+        wrote(saw);
+        told(NOT);
     }
     fs::remove_file(repository.root.join(".git")).unwrap();
 
     if !has("git") {
         return;
     }
-    let git = |words: &[&str]| {
-        let mut git = Command::new("git");
-        git.env("GIT_CONFIG_GLOBAL", "/dev/null");
-        git.args(["-c", "user.name=a", "-c", "user.email=a@b", "-C"]);
-        printed(git.arg(&repository.root).args(words))
-    };
-    git(&["init", "--quiet"]);
-    fs::write(repository.root.join(".gitignore"), "target/\n").unwrap();
-    git(&["add", "."]);
-    git(&["commit", "--quiet", "-m", "a"]);
-    let commit = git(&["rev-parse", "HEAD"]);
-    told(not);
+    fs::remove_file(repository.root.join("target/gate.txt")).unwrap();
+    let commit = repository.commit();
+    told(NOT);
     wrote(&format!("tree: {commit}"));
-    told(run);
+    told(RUN);
     // A tag changes nothing; a change does, and so does a gate that saw one.
-    git(&["tag", "-a", "1.0", "-m", "a"]);
-    told(run);
+    repository.git(&["tag", "-a", "1.0", "-m", "a"]);
+    told(RUN);
     let header = repository.root.join("include/mtr.h");
     let held = fs::read(&header).unwrap();
     fs::write(&header, [&held[..], b"\n"].concat()).unwrap();
-    told(not);
-    wrote(&format!("tree: {}-dirty\n", commit.trim()));
-    told(not);
+    told(NOT);
+    wrote(&format!("tree: {commit}-dirty"));
+    told(NOT);
     fs::write(&header, held).unwrap();
-    told(not);
-    wrote("tree: unknown\n");
-    told(not);
-    fs::write(&gate, "5 passed, 0 failed\n").unwrap();
-    told(not);
+    told(NOT);
+    for saw in ["tree: unknown", ""] {
+        wrote(saw);
+        told(NOT);
+    }
     // The same files in a later commit are not what the gate saw.
     wrote(&format!("tree: {commit}"));
-    told(run);
-    git(&["commit", "--quiet", "--allow-empty", "-m", "b"]);
-    told(not);
+    told(RUN);
+    repository.git(&["commit", "--quiet", "--allow-empty", "-m", "b"]);
+    told(NOT);
+}
+
+/// The commit is the one that the gate saw, and what is packed is not all that it tested.
+#[test]
+fn untested_files() {
+    if !has("git") {
+        return;
+    }
+    let repository = Repository::whole("dist-untested");
+    let saw = format!("tree: {}", repository.commit());
+    let sums = repository.sums();
+    // The script names the files in one line, and so does the page.
+    let not = |files: &str| {
+        let text = format!("was not run for these files: {files}");
+        let line = repository.told(&text);
+        let expected = format!("dist.sh: the gate {text}; PROVED.md says so, without its count\n");
+        assert_eq!(line, expected);
+    };
+    let packed = [
+        ("target/staticlib/libabi.a", "lib/libmtr.a"),
+        ("target/bin/mtrrun", "bin/mtrrun"),
+        ("target/bin/mtrwhy", "bin/mtrwhy"),
+        ("target/cargo/release/journal", "bin/journal"),
+    ];
+    let all = packed.map(|(_, name)| name).join(" ");
+
+    repository.gate(&saw, &sums);
+    assert_eq!(repository.told(RUN), "");
+    for (file, name) in packed {
+        // A file that is not the one that was tested. An archive stays one with a byte more.
+        let file = repository.root.join(file);
+        let held = fs::read(&file).unwrap();
+        fs::write(&file, [&held[..], b"\n"].concat()).unwrap();
+        not(name);
+        fs::write(&file, held).unwrap();
+        assert_eq!(repository.told(RUN), "");
+    }
+    for (file, name) in packed {
+        // A file whose sum is not there.
+        let (own, others): (Vec<&str>, Vec<&str>) = sums.lines().partition(|l| l.ends_with(file));
+        assert_eq!(own.len(), 1);
+        repository.gate(&saw, &others.join("\n"));
+        not(name);
+    }
+    // The sum of one file stands for no other.
+    let (archive, _) = sums.split_once(' ').unwrap();
+    repository.gate(&saw, &format!("{archive}  target/bin/mtrrun\n"));
+    not(&all);
+    // A gate that took no sums, as those before this one.
+    repository.gate(&saw, "");
+    not(&all);
 }
 
 #[test]

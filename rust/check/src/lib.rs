@@ -17,6 +17,8 @@
 //! - [`faults`]: names the call at which a signal ended the process.
 //! - [`stack`]: the stack that each call needs.
 //! - [`journal`]: a journal made of any bytes, and its replay on every side.
+//! - [`antt`]: definitions, proofs and code as text.
+//! - [`statements`]: what the theorems say that docs/PROOFS.md names.
 //! - `fuzzer`: the programs as functions, in the build for libFuzzer only (`fuzz/build.sh`).
 
 #![deny(unsafe_op_in_unsafe_fn)]
@@ -24,6 +26,7 @@
 #[macro_use]
 mod sorts;
 
+pub mod antt;
 pub mod attack;
 pub mod best_effort;
 pub mod blocks;
@@ -39,6 +42,7 @@ pub mod late;
 pub mod program;
 pub mod share;
 pub mod stack;
+pub mod statements;
 pub mod table_recipe;
 pub mod tables;
 pub mod ties;
