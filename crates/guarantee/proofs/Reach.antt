@@ -1,6 +1,6 @@
 -- How far the meter and the virtual time go over a stretch: the virtual time never falls, and from a start, or any state that is not past
--- it, no list of calls brings the meter above 10,000,001,000,998. A dispatch just below the limit and a report of the longest slice with the
--- largest overrun bring it there.
+-- it, no list of calls brings the meter above 10,000,001,000,998. A dispatch just below the limit and a report of the longest slice with
+-- the largest overrun bring it there.
 use Prim.Native.Nat.{ℕ, _≤_}
 use mathlib.Core.Path.{_≡_, refl}
 use mathlib.Core.List.{List, [], _∷_}
