@@ -3,7 +3,7 @@ use Prim.Native.Nat.{ℕ, _≤_, _<_, _+_, _*_}
 use mathlib.Core.Path.{_≡_}
 use mathlib.Core.Bool.{Bool}
 use lib.Dec.{T}
-use Rattle.fair.specs.Tags.{cost}
+use Rattle.fair.specs.Tags.{tagUnit, cost}
 
 -- best is the choice among the ready ones below k
 pub record Best (ready : ℕ → Bool) (tag : ℕ → ℕ) (k best : ℕ) : Type 0 where
@@ -20,4 +20,4 @@ pub record Tagged (limit time meter weight : ℕ) (ready running : Bool) (tag : 
   pub near : tag ≤ time + cost weight limit
   pub ahead : T ready → time ≤ tag
   pub at : T running → tag ≡ time
-  pub paid : tag ≤ 720720 * meter
+  pub paid : tag ≤ tagUnit * meter
