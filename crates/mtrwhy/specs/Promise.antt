@@ -7,15 +7,18 @@ use mathlib.Core.Path.{_≡_}
 use mathlib.Core.List.{List}
 use mathlib.Core.Bool.{Bool, true, false, not, cond, _&&_}
 use lib.Dec.{eqb}
+use lib.IntN.{ℤ}
 use lib.ListN.{length, take}
 use Rattle.text.specs.declared.Number.{Number}
-use Rattle.text.specs.declared.Number.the-variants.{Value}
+use Rattle.text.specs.declared.Number.the-variants.{Value, Bad}
 use Rattle.text.specs.Decimal.{linesOf}
 use Rattle.events.specs.Replay.{blocksIn}
 use Rattle.events.specs.Why.{why}
 use Rattle.why.specs.declared.Search.{Search}
 use Rattle.why.specs.Search.{isIn, looked, lookOf, areaAfter}
 use Rattle.program.specs.declared.Filled.{Filled}
+use Rattle.program.specs.declared.Opened.{Opened}
+use Rattle.program.specs.declared.Opened.the-variants as Opening
 use Rattle.program.specs.Pieces.{Fetched, judgedOf, Pieces}
 use Rattle.mtrwhy.specs.declared.Piece.{Piece}
 use Rattle.mtrwhy.specs.declared.Held.{Held}
@@ -60,16 +63,23 @@ pub record Told (asked : ℕ) (r : Answer) : Type 0 where
   pub within : r .used ≤ length (r .text)
   pub answer : r .failed ≡ false → take (r .used) (r .text) ≡ linesOf (why (read .bytes) asked)
 
+-- whether nothing of the file was read
+abbrev pub isUnread : Answer → Bool
+isUnread r = eqb (r .read) 0 && eqb (r .last .got) 0
+
 -- what is handed to the write: the answer's text; or, where a read failed, the two bytes of the answer 4 if nothing of the file was read,
 -- and else none
 pub record Wrote (asked handed : ℕ) : Type 0 where
   pub answer : Answer
   pub told : Told asked answer
-  pub count :
-      handed
-      ≡ cond (answer .failed) (cond (eqb (answer .read) 0 && eqb (answer .last .got) 0) 2 0) (length (linesOf (why (told .read .bytes) asked)))
+  pub count : handed ≡ cond (answer .failed) (cond (isUnread answer) 2 0) (length (linesOf (why (told .read .bytes) asked)))
 
--- what is done for the number that an argument spells: it is the one asked about, or the two bytes of the answer 4 are handed to the write
+-- for what was opened: the two bytes of the answer 4 where that is no file, else the answer
+pub data Answered (asked : ℕ) (opened : Opened) (handed : ℕ) : Type 0 where
+  unopened : opened ≡ Opening.Bad → handed ≡ 2 → Answered asked opened handed
+  told : (fd : ℤ) → opened ≡ Opening.File fd → Wrote asked handed → Answered asked opened handed
+
+-- for the number that an argument spells: the same where it is none, else the answer for this number, of what was opened
 pub data Served (number : Number) (handed : ℕ) : Type 0 where
-  refused : handed ≡ 2 → Served number handed
-  answered : (asked : ℕ) → number ≡ Value asked → Wrote asked handed → Served number handed
+  refused : number ≡ Bad → handed ≡ 2 → Served number handed
+  answered : (asked : ℕ) (opened : Opened) → number ≡ Value asked → Answered asked opened handed → Served number handed
