@@ -10,8 +10,8 @@ use lib.Dec.{eqb}
 use lib.IntN.{ℤ}
 use lib.ListN.{length, take}
 use Rattle.text.specs.declared.Number.{Number}
-use Rattle.text.specs.declared.Number.the-variants.{Value, Bad}
-use Rattle.text.specs.Decimal.{linesOf}
+use Rattle.text.specs.declared.Number.the-variants.{Value}
+use Rattle.text.specs.Decimal.{linesOf, numberRefusal}
 use Rattle.events.specs.Replay.{blocksIn}
 use Rattle.events.specs.Why.{why}
 use Rattle.why.specs.declared.Search.{Search}
@@ -19,6 +19,7 @@ use Rattle.why.specs.Search.{isIn, looked, lookOf, areaAfter}
 use Rattle.program.specs.declared.Filled.{Filled}
 use Rattle.program.specs.declared.Opened.{Opened}
 use Rattle.program.specs.declared.Opened.the-variants as Opening
+use Rattle.program.specs.Program.{openedRefusal}
 use Rattle.program.specs.Pieces.{Fetched, judgedOf, Pieces}
 use Rattle.mtrwhy.specs.declared.Piece.{Piece}
 use Rattle.mtrwhy.specs.declared.Held.{Held}
@@ -74,12 +75,12 @@ pub record Wrote (asked handed : ℕ) : Type 0 where
   pub told : Told asked answer
   pub count : handed ≡ cond (answer .failed) (cond (isUnread answer) 2 0) (length (linesOf (why (told .read .bytes) asked)))
 
--- for what was opened: the two bytes of the answer 4 where that is no file, else the answer
+-- for what was opened: the two bytes of the answer 4 where that is its number, else the answer
 pub data Answered (asked : ℕ) (opened : Opened) (handed : ℕ) : Type 0 where
-  unopened : opened ≡ Opening.Bad → handed ≡ 2 → Answered asked opened handed
+  unopened : openedRefusal opened ≡ 4 → handed ≡ 2 → Answered asked opened handed
   told : (fd : ℤ) → opened ≡ Opening.File fd → Wrote asked handed → Answered asked opened handed
 
 -- for the number that an argument spells: the same where it is none, else the answer for this number, of what was opened
 pub data Served (number : Number) (handed : ℕ) : Type 0 where
-  refused : number ≡ Bad → handed ≡ 2 → Served number handed
+  refused : numberRefusal number ≡ 4 → handed ≡ 2 → Served number handed
   answered : (asked : ℕ) (opened : Opened) → number ≡ Value asked → Answered asked opened handed → Served number handed

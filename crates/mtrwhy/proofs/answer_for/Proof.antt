@@ -1,6 +1,7 @@
 -- `answer_for` meets its contract: the record that is told about is the one asked for.
-use mathlib.Core.Path.{_∙_}
+use mathlib.Core.Path.{ap, _∙_}
 use native.Mathlib.Omega.{arith}
+use Rattle.program.specs.Program.{openedRefusal}
 use Rattle.mtrwhy.specs.Promise.{unopened}
 use Rattle.mtrwhy.proofs.Pieces.{told-file}
 use borrow.Author.Needs.{needs}
@@ -25,7 +26,7 @@ count-requires c κs = search needs
 returns : tie.Need-returns
 returns c =
     let bad = c .before .before .before .enum-told .given in
-    unopened (bad .1) (c .count .ensures ∙ c .before .refuse .ensures)
+    unopened (ap openedRefusal (bad .1)) (c .count .ensures ∙ c .before .refuse .ensures)
 
 tell-requires : tie.Need-tell-requires
 tell-requires c κs = search needs

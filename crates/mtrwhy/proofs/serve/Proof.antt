@@ -1,6 +1,7 @@
 -- `serve` meets its contract: the record asked about is the number that was spelt.
-use mathlib.Core.Path.{_∙_}
+use mathlib.Core.Path.{ap, _∙_}
 use native.Mathlib.Omega.{arith}
+use Rattle.text.specs.Decimal.{numberRefusal}
 use Rattle.mtrwhy.specs.Promise.{refused}
 use Rattle.mtrwhy.proofs.Pieces.{served}
 use borrow.Author.Needs.{needs}
@@ -25,7 +26,7 @@ count-requires c κs = search needs
 returns : tie.Need-returns
 returns c =
     let bad = c .before .before .before .enum-told .given in
-    refused (bad .1) (c .count .ensures ∙ c .before .refuse .ensures)
+    refused (ap numberRefusal (bad .1)) (c .count .ensures ∙ c .before .refuse .ensures)
 
 open-requires : tie.Need-open-requires
 open-requires c κs = search needs
