@@ -1,5 +1,4 @@
 -- `answer_for` meets its contract: the record that is told about is the one asked for.
-use mathlib.Core.Path.{_∙_}
 use native.Mathlib.Omega.{arith}
 use Rattle.mtrwhy.specs.Promise.{unopened}
 use Rattle.mtrwhy.proofs.Pieces.{told-file}
@@ -19,13 +18,10 @@ slice-aggregate-refuse c = search needs
 refuse-requires : tie.Need-refuse-requires
 refuse-requires c κs = search needs
 
-count-requires : tie.Need-count-requires
-count-requires c κs = search needs
-
 returns : tie.Need-returns
 returns c =
-    let bad = c .before .before .before .enum-told .given in
-    unopened (bad .1) (c .count .ensures ∙ c .before .refuse .ensures)
+    let bad = c .before .before .enum-told .given in
+    unopened (bad .1) (c .refuse .ensures)
 
 tell-requires : tie.Need-tell-requires
 tell-requires c κs = search needs
@@ -46,7 +42,6 @@ answer-for-spec =
     enum-told
     slice-aggregate-refuse
     refuse-requires
-    count-requires
     returns
     tell-requires
     close-requires
