@@ -1,5 +1,5 @@
 -- `answer_for` meets its contract: the record that is told about is the one asked for.
-use mathlib.Core.Path.{ap, _∙_}
+use mathlib.Core.Path.{ap}
 use native.Mathlib.Omega.{arith}
 use Rattle.program.specs.Program.{openedRefusal}
 use Rattle.mtrwhy.specs.Promise.{unopened}
@@ -20,13 +20,10 @@ slice-aggregate-refuse c = search needs
 refuse-requires : tie.Need-refuse-requires
 refuse-requires c κs = search needs
 
-count-requires : tie.Need-count-requires
-count-requires c κs = search needs
-
 returns : tie.Need-returns
 returns c =
-    let bad = c .before .before .before .enum-told .given in
-    unopened (ap openedRefusal (bad .1)) (c .count .ensures ∙ c .before .refuse .ensures)
+    let bad = c .before .before .enum-told .given in
+    unopened (ap openedRefusal (bad .1)) (c .refuse .ensures)
 
 tell-requires : tie.Need-tell-requires
 tell-requires c κs = search needs
@@ -47,7 +44,6 @@ answer-for-spec =
     enum-told
     slice-aggregate-refuse
     refuse-requires
-    count-requires
     returns
     tell-requires
     close-requires

@@ -1,5 +1,5 @@
 -- `serve` meets its contract: the record asked about is the number that was spelt.
-use mathlib.Core.Path.{ap, _∙_}
+use mathlib.Core.Path.{ap}
 use native.Mathlib.Omega.{arith}
 use Rattle.text.specs.Decimal.{numberRefusal}
 use Rattle.mtrwhy.specs.Promise.{refused}
@@ -20,13 +20,10 @@ slice-aggregate-refuse c = search needs
 refuse-requires : tie.Need-refuse-requires
 refuse-requires c κs = search needs
 
-count-requires : tie.Need-count-requires
-count-requires c κs = search needs
-
 returns : tie.Need-returns
 returns c =
-    let bad = c .before .before .before .enum-told .given in
-    refused (ap numberRefusal (bad .1)) (c .count .ensures ∙ c .before .refuse .ensures)
+    let bad = c .before .before .enum-told .given in
+    refused (ap numberRefusal (bad .1)) (c .refuse .ensures)
 
 open-requires : tie.Need-open-requires
 open-requires c κs = search needs
@@ -47,7 +44,6 @@ serve-spec =
     enum-told
     slice-aggregate-refuse
     refuse-requires
-    count-requires
     returns
     open-requires
     answer-for-requires
