@@ -15,7 +15,7 @@ library: ## prove and build the static library, target/staticlib/libabi.a
 quick: ## the gate without the edits, over what is proved: for work in between
 	.ci/run --quick
 
-gate: ## the merge gate, from nothing (about 30 minutes on two cores)
+gate: ## the merge gate, from nothing (20 to 25 minutes on two cores)
 	.ci/run
 
 count: ## the present numbers of crates, edits and tests, in the form of .ci/least
