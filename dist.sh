@@ -126,15 +126,16 @@ END
 
 # What is packed and the gate did not test: its file has no such sum of it.
 untested() {
-    while read -r file packed; do
+    for packed in lib/libmtr.a "$new"/bin/*; do
+        packed=${packed#"$new"/}
+        case $packed in
+        lib/libmtr.a) file=$archive ;;
+        bin/journal) file=target/cargo/release/journal ;;
+        *) file=target/$packed ;;
+        esac
         sum=$(sha256sum <"$new/$packed") || return
         grep -qxF "${sum%% *}  $file" target/gate.txt || printf ' %s' "$packed"
-    done <<END
-$archive lib/libmtr.a
-target/bin/mtrrun bin/mtrrun
-target/bin/mtrwhy bin/mtrwhy
-target/cargo/release/journal bin/journal
-END
+    done
 }
 
 # What the gate counted, if it saw the commit that stands here and nothing else, which is the second line of its file, and tested what is

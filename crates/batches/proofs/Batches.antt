@@ -1,11 +1,9 @@
 -- Demand 3 of the code: what `Scheduler::run` leaves and answers for records that ask for calls is the final state and the replies of the
 -- stretch of these calls, and so for batches one after the other. So `owed`, `second` and `fairness` are about what it answers.
 use Prim.Native.Nat.{ℕ, suc, _-_}
-use mathlib.Core.Path.{_≡_, refl, sym, ap, subst, _∙_}
+use mathlib.Core.Path.{_≡_, refl, sym, ap, _∙_}
 use mathlib.Core.List.{List, [], _∷_, _++_}
-use native.Mathlib.Nat.{le-refl}
 use lib.ListN.{length, take, replicate}
-use lib.Seq.{take-all}
 use Rattle.record.specs.declared.Record.{Record}
 use Rattle.rule.specs.State.{State}
 use Rattle.rule.specs.Refusals.{Call}
@@ -15,7 +13,7 @@ use Rattle.scheduler.specs.declared.batch.Line.{Line}
 use Rattle.scheduler.specs.Batch.{lineIn, noLine, batchLines, batchHalted, batchLeft, batchOf}
 use Rattle.scheduler.specs.View.{view}
 use Rattle.guarantee.specs.Stretch.{trace, final}
-use Rattle.batches.specs.Batches.{Asks, linesOf, afterBatches, AskAll}
+use Rattle.batches.specs.Batches.{Asks, linesOf, Given, servedOf, afterBatches, batchAnswers, AskAll}
 
 -- what the records of a batch leave and answer, and that it is not halted
 pub record Stretched (rs : List Record) (cs : List Call) (s : State) : Type 0 where
@@ -71,13 +69,32 @@ unfolding final
 final-append [] ys s = refl
 final-append (c ∷ xs) ys s = final-append xs ys ((step c s) .state)
 
-pub runs-stretch : (rss : List (List Record)) (cs : List Call) (s : State) → AskAll rss cs → afterBatches s rss ≡ final s cs
-unfolding AskAll afterBatches final
-runs-stretch [] cs s a = ap (final s) (sym a)
-runs-stretch (rs ∷ more) cs s a =
+lines-append : (xs ys : List Call) (s : State) → linesOf (trace s (xs ++ ys)) ≡ linesOf (trace s xs) ++ linesOf (trace (final s xs) ys)
+unfolding final trace linesOf
+lines-append [] ys s = refl
+lines-append (c ∷ xs) ys s = ap (λ (l : List Line). lineIn (step c s) ∷ l) (lines-append xs ys ((step c s) .state))
+
+as-many : (rs : List Record) (cs : List Call) → Asks rs cs → length rs ≡ length cs
+unfolding Asks
+as-many [] [] a = refl
+as-many [] (c ∷ cs) a = absurd a
+as-many (r ∷ rs) [] a = absurd a
+as-many (r ∷ rs) (c ∷ cs) a = ap suc (as-many rs cs (a .1))
+
+none : (s : State) → (s ≡ final s []) × ([] ≡ linesOf (trace s []))
+unfolding final trace linesOf
+none s = (refl, refl)
+
+pub runs-stretch : (bs : List Given) (cs : List Call) (s : State) → AskAll bs cs
+    → (afterBatches s bs ≡ final s cs) × (batchAnswers s bs ≡ linesOf (trace s cs))
+unfolding AskAll afterBatches batchAnswers
+runs-stretch [] cs s a = rw a (none s)
+runs-stretch (b ∷ more) cs s a =
     let front = a .0 in
     let rest = a .1 in
-    let whole = take-all (length rs) rs (le-refl (length rs)) in
-    let k = run-stretch rs (length rs) s front (subst (λ (l : List Record). Asks l front) (sym whole) (a .3)) in
-    rw (k .0) (runs-stretch more rest (final s front) (a .4))
-    ∙ sym (final-append front rest s) ∙ ap (final s) (sym (a .2))
+    let k = run-stretch (b .records) (b .count) s front (a .3) in
+    let r = runs-stretch more rest (final s front) (a .4) in
+    rw (k .0, as-many (servedOf b) front (a .3), k .1, r .0, r .1) (
+      sym (final-append front rest s) ∙ ap (final s) (sym (a .2)),
+      sym (lines-append front rest s) ∙ ap (λ (l : List Call). linesOf (trace s l)) (sym (a .2)),
+    )
