@@ -269,9 +269,9 @@ fn untested_files() {
     };
     let packed = [
         ("target/staticlib/libabi.a", "lib/libmtr.a"),
+        ("target/cargo/release/journal", "bin/journal"),
         ("target/bin/mtrrun", "bin/mtrrun"),
         ("target/bin/mtrwhy", "bin/mtrwhy"),
-        ("target/cargo/release/journal", "bin/journal"),
     ];
     let all = packed.map(|(_, name)| name).join(" ");
 
