@@ -3,9 +3,9 @@
 
 use model::blocks::{kind, write_block, Record};
 use model::calls::{apply, record, Call};
-use model::random::Rng;
 use model::rule::Scheduler;
 use model::why::why_from_with;
+use samples::random::Rng;
 use std::ffi::{OsStr, OsString};
 use std::fs::File;
 use std::path::{Path, PathBuf};

@@ -1,11 +1,11 @@
 //! What occurred of best-effort threads, so that a test can ask that all of it did; and calls that leave them time.
 
 use model::calls::Call;
-use model::random::{call, Rng};
 use model::rule::{
     Reply, Scheduler, Thread, BLOCK, BLOCKED, EXIT, NONE, RUNNABLE, TAG_UNIT, TICK, WEIGHT_MOST,
     YIELD,
 };
+use samples::random::{call, Rng};
 
 /// A random call as the model's, but that reserved threads mostly block and stay so. Best-effort threads then run.
 pub fn quiet_call(r: &mut Rng, s: &Scheduler) -> Call {

@@ -7,9 +7,9 @@
 use crate::compare::{to_library, to_library_record, to_library_table, to_model};
 use core::arch::asm;
 use model::calls::Call as Made;
-use model::random::{any_record, any_table, asked_priority, hostile_state, sound_state, Rng};
 use mtr::raw::{self, Entry, Found, PriorityLine, PriorityTable, Records, Reply};
 use mtr::{Reason, Scheduler, Settings};
+use samples::random::{any_record, any_table, asked_priority, hostile_state, sound_state, Rng};
 
 /// Bytes of the painted stack.
 const STACK: usize = 64 * 1024;
@@ -186,7 +186,7 @@ fn one(
 fn step(r: &mut Rng, to: u64, call: usize, state: &raw::Scheduler) -> [u64; 6] {
     // Of the model's calls on this state the first of the kind, if one comes soon.
     for _ in 0..40 {
-        let made = model::random::call(r, &to_model(state));
+        let made = samples::random::call(r, &to_model(state));
         let (kind, numbers) = match made {
             Made::Open {
                 number,

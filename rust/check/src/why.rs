@@ -2,9 +2,9 @@
 
 use crate::journal::Case;
 use model::blocks::{kind, read_block, Record, BLOCK, RECORDS};
-use model::random::Rng;
 use model::rule::RUNNABLE;
 use model::why::{why_from, History};
+use samples::random::Rng;
 use std::collections::BTreeMap;
 use std::io::{self, Read};
 

@@ -8,9 +8,9 @@ use check::share::to_nearest;
 use check::ties::Ties;
 use model::accounts::Entry;
 use model::calls::Call;
-use model::random::{call, edge_value, hostile_state, sound_state, Rng};
 use model::rule::{Scheduler, BLOCKED, FREE, METER_LIMIT, METER_MAX};
 use mtr::numbers;
+use samples::random::{call, edge_value, hostile_state, sound_state, Rng};
 
 /// Not an entry that a roster could hold.
 const MARK: numbers::Entry = numbers::Entry {

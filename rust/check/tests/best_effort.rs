@@ -9,13 +9,13 @@ use check::compare::{admit, both, sound, start, to_library, to_model_entry, weig
 use check::program::{answered, Folder};
 use model::blocks::{kind, Record, RECORD};
 use model::calls::{record, Call};
-use model::random::{broken_states, edge_value, hostile_state, sound_state, Rng};
 use model::rule::{
     Reply, Scheduler, Thread, BLOCK, BLOCKED, EXIT, FREE, METER_LIMIT, METER_MAX, NONE, RUNNABLE,
     TICK, YIELD,
 };
 use model::why::why;
 use mtr::numbers;
+use samples::random::{broken_states, edge_value, hostile_state, sound_state, Rng};
 
 const UNIT: u64 = 720_720;
 

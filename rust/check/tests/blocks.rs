@@ -3,8 +3,8 @@
 use check::bytes;
 use check::compare::{to_library_record, to_model_record};
 use model::blocks::{check, kind, read_block, write_block, Record, BLOCK, RECORD, RECORDS};
-use model::random::Rng;
 use mtr::numbers;
+use samples::random::Rng;
 
 const WRITES: usize = 300_000;
 const READS: usize = 300_000;

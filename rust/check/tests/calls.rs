@@ -5,9 +5,9 @@ use check::compare::{both, kind, library, sound, start, to_library, Tally, KINDS
 use check::late::Late;
 use model::accounts::Entry;
 use model::calls::Call;
-use model::random::{broken_states, call, edge_value, hostile_state, sound_state, Rng};
 use model::rule::{priority, Reply, Scheduler, METER_LIMIT, METER_MAX, NONE};
 use mtr::numbers;
+use samples::random::{broken_states, call, edge_value, hostile_state, sound_state, Rng};
 
 const FROM_SOUND: u64 = 600_000;
 const FROM_START: u64 = 200_000;

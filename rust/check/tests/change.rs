@@ -7,11 +7,11 @@ use check::changes::Changes;
 use check::compare::{both, sound, start, to_library};
 use model::blocks::{kind, Record, RECORD};
 use model::calls::{record, Call};
-use model::random::{broken_states, edge_value, hostile_state, sound_state, Rng};
 use model::rule::{
     Reply, Scheduler, BLOCK, BLOCKED, FREE, METER_LIMIT, METER_MAX, NONE, RUNNABLE, TICK, YIELD,
 };
 use mtr::numbers;
+use samples::random::{broken_states, edge_value, hostile_state, sound_state, Rng};
 
 /// The state after an accepted change, or the refusal: RULE 6.4 and 2.11 once more, in wide integers and with nothing of the model's.
 fn ruled(s: &Scheduler, number: u64, amount: u64) -> Result<Scheduler, u32> {

@@ -3,8 +3,8 @@
 use check::best_effort::quiet_call;
 use check::compare::{both, start};
 use model::calls::Call;
-use model::random::{sound_state, Rng};
 use model::rule::{Reply, Scheduler, NONE, RUNNABLE};
+use samples::random::{sound_state, Rng};
 
 /// The limit over every stretch that ends at the newest report, for every two best-effort threads that are runnable throughout. Each state
 /// on the way is sound, so a stretch may begin at any of them.

@@ -4,9 +4,9 @@ use std::io::Write;
 
 use check::compare::{admit, both, start, to_library, weigh};
 use model::calls::Call;
-use model::random::{call, sound_state, Rng};
 use model::rule::{Reply, Scheduler, BLOCKED, RUNNABLE};
 use mtr::numbers;
+use samples::random::{call, sound_state, Rng};
 
 /// One limit where it was nearest to being reached: what was owed of what is
 /// allowed, and for whom.

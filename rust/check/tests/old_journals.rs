@@ -15,9 +15,9 @@ use check::late::Late;
 use check::program::{answered, printed, root};
 use check::why::{drawn, rarer, sort_of, sorts, Sorts};
 use model::blocks::{kind, read_block, Record, BLOCK};
-use model::random::Rng;
 use model::replay::{replay, replay_with};
 use model::why::why;
+use samples::random::Rng;
 
 /// The folders, with how many journals are in each.
 const FOLDERS: [(&str, usize); 4] = [

@@ -5,11 +5,11 @@ use check::bytes;
 use check::compare::{both, library, sound, start, to_library, to_model_entry};
 use model::blocks::{check, kind, read_block, write_block, Record, BLOCK as BLOCK_BYTES, RECORD};
 use model::calls::Call;
-use model::random::{call, sound_state, Rng};
 use model::rule::{
     Reply, Scheduler, BLOCK, BLOCKED, EXIT, METER_LIMIT, METER_MAX, RUNNABLE, TICK, YIELD,
 };
 use mtr::numbers;
+use samples::random::{call, sound_state, Rng};
 
 /// Threads 1, 2 and on of these reservations in group 0.
 fn with(m: u64, p: u64, o: u64, reservations: &[u64]) -> Scheduler {

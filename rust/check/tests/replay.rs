@@ -3,8 +3,8 @@
 use check::best_effort::BestEffort;
 use check::changes::Changes;
 use check::program::{printed, root, shipped};
-use model::random::{journal, Rng};
 use model::replay::replay;
+use samples::random::{journal, Rng};
 
 fn whole(input: &[u8]) -> Vec<u8> {
     printed(input, &[1 << 20])

@@ -5,9 +5,9 @@ use check::compare::{admit, both, start, to_library, to_model_entry, weigh};
 use check::ties::Ties;
 use model::accounts::Entry;
 use model::calls::Call;
-use model::random::{sound_state, Rng};
 use model::rule::{Scheduler, Thread, BLOCKED, FREE, RUNNABLE};
 use mtr::numbers;
+use samples::random::{sound_state, Rng};
 
 /// The library's roster, equal to the model's and in order. What it has of ties is counted.
 fn roster(s: &Scheduler, ties: &mut Ties) -> Vec<u32> {

@@ -4,9 +4,9 @@
 use check::compare::{to_library, to_model_entry};
 use check::share::{is_nearest, to_nearest, Shares};
 use model::accounts::Entry;
-use model::random::Rng;
 use model::rule::{Scheduler, METER_LIMIT, METER_MAX};
 use mtr::numbers;
+use samples::random::Rng;
 
 /// 64 threads, which nothing has run of yet.
 fn full() -> Scheduler {

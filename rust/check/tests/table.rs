@@ -3,11 +3,11 @@
 use check::bytes;
 use check::compare::{to_library_line, to_library_table, to_model_table};
 use check::tables::{sorts, Sort, Tables};
-use model::random::{
-    all_rows, all_tables, any_table, asked_priority, damaged_tables, usable_table, Rng,
-};
 use model::table::{asked, standard, Line, Row, Table, ROWS};
 use mtr::numbers;
+use samples::random::{
+    all_rows, all_tables, any_table, asked_priority, damaged_tables, usable_table, Rng,
+};
 
 /// Numbers at edges, and those that are in a range once cut.
 const EDGES: [u64; 9] = [

@@ -14,7 +14,6 @@
 //! - [`replay`]: what `mtrrun` prints for a journal.
 //! - [`why`]: what `mtrwhy` prints for a journal and a record's number.
 //! - [`table`]: customers' own priority tables.
-//! - [`random`]: generators of states, calls, journals and tables for tests.
 
 #![forbid(unsafe_code)]
 
@@ -22,7 +21,6 @@ pub mod accounts;
 pub mod blocks;
 pub mod by_value;
 pub mod calls;
-pub mod random;
 pub mod replay;
 pub mod rule;
 pub mod table;

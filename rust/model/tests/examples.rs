@@ -373,7 +373,7 @@ fn block_forms() {
 
 #[test]
 fn the_check_byte_by_byte() {
-    let mut r = model::random::Rng::new(1);
+    let mut r = samples::random::Rng::new(1);
     for round in 0..200 {
         let mut body = [0u8; 510];
         for byte in &mut body {

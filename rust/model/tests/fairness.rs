@@ -6,9 +6,9 @@ mod common;
 mod plain;
 
 use model::calls::{apply, Call};
-use model::random::{call, sound_state, Rng};
 use model::rule::{Scheduler, BLOCKED, NONE, RUNNABLE};
 use plain::slice;
+use samples::random::{call, sound_state, Rng};
 
 /// Now and then a call that would end a premise is replaced, and reserved threads
 /// are mostly made to block, so that best-effort ones run.

@@ -6,9 +6,9 @@ use model::accounts::Entry;
 use model::blocks::{kind, read_block, write_block, BLOCK};
 use model::by_value;
 use model::calls::{apply, Call};
-use model::random::{any_record, broken_states, call, hostile_state, journal, sound_state, Rng};
 use model::replay::{replay, replay_from, replay_from_with, replay_with};
 use model::rule::{Reply, Scheduler, BLOCKED, METER_MAX, NONE, RUNNABLE};
+use samples::random::{any_record, broken_states, call, hostile_state, journal, sound_state, Rng};
 
 mod common;
 mod plain;

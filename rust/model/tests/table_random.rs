@@ -5,10 +5,10 @@ mod common;
 use std::collections::BTreeMap;
 
 use common::{line, row, table_with, BEYOND};
-use model::random::{
+use model::table::{asked, given, Line, Row, Table};
+use samples::random::{
     all_rows, all_tables, any_table, asked_priority, damaged_tables, usable_table, Rng,
 };
-use model::table::{asked, given, Line, Row, Table};
 
 /// The answer once more, by marks: how many rows are at each priority, and the
 /// reservation of the last of them.

@@ -7,9 +7,9 @@ use std::io::{self, Read};
 use common::{admit, block, dispatch, listing, named, remove, report, start, wake};
 use model::blocks::{kind, write_block, Record, BLOCK};
 use model::calls::{record, Call};
-use model::random::{sound_state, Rng};
 use model::rule::{METER_LIMIT, METER_MAX, NONE};
 use model::why::{chosen, why, why_from, why_from_with};
+use samples::random::{sound_state, Rng};
 
 /// Blocks 0, 1 and on with these records each.
 fn journal(blocks: &[&[Record]]) -> Vec<u8> {

@@ -10,8 +10,8 @@ use std::process::Command;
 
 use common::{block, Drip};
 use model::calls::{record, Call};
-use model::random::{blocking, Rng};
 use model::why::{number, program, why, why_from};
+use samples::random::{blocking, Rng};
 
 /// What is no number of 1 to 19 digits.
 const BAD: [&str; 19] = [

@@ -5,10 +5,10 @@ use crate::compare::{to_library_record, to_model};
 use crate::guard::Side;
 use model::blocks::{check, write_block, BLOCK, RECORD};
 use model::calls::Call;
-use model::random::{
+use mtr::raw::{self, Record, Records};
+use samples::random::{
     any_record, any_table, asked_priority, damaged_tables, edge_value, usable_table, Rng,
 };
-use mtr::raw::{self, Record, Records};
 use std::mem::size_of;
 
 const LIST: usize = size_of::<Records>();

@@ -8,9 +8,9 @@ use crate::bytes;
 use crate::compare::{to_library_line, to_model, to_model_entry, to_model_record, to_model_table};
 use crate::guard::Side;
 use model::blocks::{read_block, write_block};
-use model::random::Rng;
 use model::table::{asked, standard};
 use mtr::raw::{self, Entry, PriorityTable};
+use samples::random::Rng;
 use std::mem::size_of;
 
 const ENTRY: usize = size_of::<Entry>();

@@ -3,9 +3,9 @@
 use super::inputs::any_bytes;
 use crate::bytes::{self, STATE};
 use crate::compare::to_library;
-use model::random::{broken_states, hostile_state, sound_state, Rng};
 use model::rule::{Scheduler, Thread, METER_LIMIT, METER_MAX, NONE, RUNNABLE, TAG_UNIT};
 use mtr::raw;
+use samples::random::{broken_states, hostile_state, sound_state, Rng};
 
 /// States that are sound but for one condition, by turns each condition.
 pub(super) struct Broken {

@@ -6,7 +6,7 @@
 
 use journal::codec::{self, answer, kind, reason, Record, NONE, RECORDS};
 use journal::engine::{Engine, Settings};
-use model::random::Rng;
+use samples::random::Rng;
 
 /// Ticks that a shipped case lasts.
 pub const LENGTH: u64 = 1_000_000;

@@ -2,7 +2,7 @@
 //! reservations, so that quanta are short and a debt shows.
 
 use journal::engine::{Engine, Settings};
-use model::random::Rng;
+use samples::random::Rng;
 
 use crate::controller::{control, Load, Outcome};
 

@@ -9,8 +9,8 @@ use crate::codec::{self, RECORDS};
 use crate::engine::{bound, Proved};
 use model::blocks;
 use model::calls::{self, Call};
-use model::random::{self, Rng};
 use model::rule::Scheduler;
+use samples::random::{self, Rng};
 
 fn encode(text: &str) -> Vec<u8> {
     crate::text::encode(text.as_bytes(), 0, false, &mut Progress::silent()).unwrap()

@@ -12,8 +12,8 @@ use journal::stats::stats;
 use journal::text::{self, Notes};
 use journal::track::{Mark, View};
 use journal::why::why;
-use model::random::{blocking, journal, Rng};
 use model::replay::replay;
+use samples::random::{blocking, journal, Rng};
 
 use crate::command::{code, errors, run};
 use crate::controller::{control, Load, Outcome, RESERVATIONS};

@@ -8,8 +8,8 @@ use journal::playback::Journal;
 use journal::progress::Progress;
 use journal::track::{Mark, View};
 use model::calls::{apply, record};
-use model::random::{call, journal, Rng};
 use model::rule::Scheduler;
+use samples::random::{call, journal, Rng};
 
 use crate::controller::{play, Server};
 use crate::files::LISTING;

@@ -1,7 +1,7 @@
 //! Journals whose first blocks are missing.
 
-use model::random::{journal, Rng};
 use model::replay::replay;
+use samples::random::{journal, Rng};
 
 use crate::command::{code, errors, run};
 use crate::encode;

@@ -1,9 +1,9 @@
 //! Generated tables of priorities as text: judged as the model judges them.
 
 use journal::priorities::{Table, Wrong};
-use model::random::{damaged_tables, usable_table, Rng};
 use model::rule;
 use model::table::{self, asked, Row, ROWS};
+use samples::random::{damaged_tables, usable_table, Rng};
 
 /// The rows as a text has them: as many as the table says, or more than ten.
 fn rows_of(table: &table::Table) -> Vec<Row> {

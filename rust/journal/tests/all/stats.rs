@@ -6,7 +6,7 @@ use journal::playback::{play, Journal, Step};
 use journal::progress::Progress;
 use journal::stats::{stats, Figures};
 use journal::track::{Mark, View};
-use model::random::{journal, Rng};
+use samples::random::{journal, Rng};
 use std::ops::ControlFlow;
 
 use crate::command::{code, errors, run, Folder};

@@ -5,8 +5,8 @@ use journal::engine::{Engine, Proved};
 use journal::playback::Journal;
 use journal::progress::Progress;
 use journal::text::{self, Problem, PROBLEMS};
-use model::random::{any_record, journal, Rng};
 use model::replay::replay;
+use samples::random::{any_record, journal, Rng};
 
 use crate::{encoded as encode, ours};
 

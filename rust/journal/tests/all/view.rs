@@ -8,7 +8,7 @@ use journal::playback::Journal;
 use journal::progress::Progress;
 use journal::stats::stats;
 use journal::track::{Mark, View};
-use model::random::{journal, Rng};
+use samples::random::{journal, Rng};
 
 use crate::draw::{check, drawn};
 use crate::files::LISTING;

@@ -12,7 +12,7 @@ use journal::playback::Journal;
 use journal::progress::Progress;
 use journal::text::{self, Notes};
 use journal::why::{why, Why};
-use model::random::{blocking, journal, Rng};
+use samples::random::{blocking, journal, Rng};
 
 use crate::command::{code, errors, run, Folder};
 use crate::files::LISTING;

@@ -7,9 +7,9 @@ use std::io::{self, Read};
 
 use model::blocks::{kind, write_block, Record};
 use model::calls::{record, Call};
-use model::random::Rng;
 use model::rule::Scheduler;
 use model::table::{Line, Row, Table, ROWS};
+use samples::random::Rng;
 
 pub const TICK: u64 = 0;
 pub const BLOCK: u64 = 1;

@@ -1,9 +1,9 @@
 //! Programs that are wrong about best-effort threads.
 
 use model::calls::{apply, Call};
-use model::random::{blocking, call, journal, sound_state, Rng};
 use model::replay::replay;
 use model::rule::{Reply, Scheduler, Thread, NONE, RUNNABLE};
+use samples::random::{blocking, call, journal, sound_state, Rng};
 
 use crate::plain::{directly, plain_replay_by};
 

@@ -1,9 +1,9 @@
 //! Programs that are wrong about overruns.
 
 use model::calls::{apply, Call};
-use model::random::{call, journal, sound_state, Rng};
 use model::replay::replay;
 use model::rule::{Reply, Scheduler, Settings, BLOCK, YIELD};
+use samples::random::{call, journal, sound_state, Rng};
 
 use crate::plain::{directly, plain_replay_by, slice};
 

@@ -1,7 +1,7 @@
 //! Programs that are wrong about priority tables.
 
-use model::random::{any_table, asked_priority, Rng};
 use model::table::{asked, given, Line, Row, Table};
+use samples::random::{any_table, asked_priority, Rng};
 
 #[derive(Clone, Copy, Debug, PartialEq, Eq)]
 enum Fault {

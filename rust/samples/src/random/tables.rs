@@ -1,7 +1,7 @@
 //! Priority tables.
 
 use super::Rng;
-use crate::table::{standard, Row, Table, ROWS};
+use model::table::{standard, Row, Table, ROWS};
 
 /// Numbers at edges.
 const EDGES: [u64; 10] = [

@@ -3,7 +3,7 @@
 use super::broken_tags::{best_effort_threads, tags};
 use super::states::{admitted, free_in, highest, open_groups, reserved, sound_state, with_status};
 use super::Rng;
-use crate::rule::{Scheduler, Thread, BLOCKED, FREE, GROUPS, METER_LIMIT, METER_MAX, NONE, WHOLE};
+use model::rule::{Scheduler, Thread, BLOCKED, FREE, GROUPS, METER_LIMIT, METER_MAX, NONE, WHOLE};
 
 /// States with the condition that each breaks.
 pub(super) type Broken = Vec<(&'static str, Scheduler)>;

@@ -3,9 +3,9 @@
 use super::calls::{change_call, weight};
 use super::states::with_status;
 use super::{call, edge_value, Rng};
-use crate::blocks::{fields, kind, seal, write_block, Record, BLOCK, RECORD, RECORDS};
-use crate::calls::{apply, record, run, Call};
-use crate::rule::{Scheduler, BLOCKED, FREE, NONE};
+use model::blocks::{fields, kind, seal, write_block, Record, BLOCK, RECORD, RECORDS};
+use model::calls::{apply, record, run, Call};
+use model::rule::{Scheduler, BLOCKED, FREE, NONE};
 
 /// A well-formed record of any kind with any values in the used fields.
 pub fn any_record(r: &mut Rng) -> Record {

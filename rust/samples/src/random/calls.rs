@@ -2,8 +2,8 @@
 
 use super::states::{admitted, free_in, open_groups, with_status};
 use super::{edge_value, Rng};
-use crate::calls::Call;
-use crate::rule::{Scheduler, BLOCKED, FREE, GROUPS, NONE};
+use model::calls::Call;
+use model::rule::{Scheduler, BLOCKED, FREE, GROUPS, NONE};
 
 /// One of `of` mostly, else any value.
 fn mostly(r: &mut Rng, of: &[usize], high: u64) -> u64 {

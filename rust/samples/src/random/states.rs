@@ -1,7 +1,7 @@
 //! Sound states.
 
 use super::Rng;
-use crate::rule::{
+use model::rule::{
     Group, Scheduler, Settings, Thread, BLOCKED, FREE, GROUPS, METER_LIMIT, METER_MAX, RUNNABLE,
     TAG_UNIT, THREADS, WEIGHT_MOST,
 };

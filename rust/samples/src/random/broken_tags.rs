@@ -3,7 +3,7 @@
 use super::broken::{low, room, some, such, Broken};
 use super::states::{best_effort, highest, reach, reserved, with_status};
 use super::Rng;
-use crate::rule::{Scheduler, FREE, NONE, RUNNABLE, TAG_UNIT};
+use model::rule::{Scheduler, FREE, NONE, RUNNABLE, TAG_UNIT};
 
 /// Best-effort threads with a property.
 fn those(s: &Scheduler, wanted: impl Fn(&Scheduler, usize) -> bool) -> Vec<usize> {

@@ -2,7 +2,7 @@
 
 use super::states::{admitted, any_group, any_thread, reach, sound_state};
 use super::{edge_value, Rng};
-use crate::rule::{Group, Scheduler, Settings, TAG_UNIT};
+use model::rule::{Group, Scheduler, Settings, TAG_UNIT};
 
 /// Overwrites one random field by an arbitrary or edge value.
 fn overwrite(r: &mut Rng, s: &mut Scheduler) {

@@ -9,7 +9,7 @@ mod journals;
 mod states;
 mod tables;
 
-use crate::rule::{METER_LIMIT, METER_MAX, TAG_UNIT};
+use model::rule::{METER_LIMIT, METER_MAX, TAG_UNIT};
 
 pub use blocking::blocking;
 pub use broken::broken_states;

@@ -4,9 +4,9 @@ use super::calls::weight;
 use super::journals::{damage, damage_block, start_record};
 use super::states::{admitted, with_status};
 use super::{call, Rng};
-use crate::blocks::{write_block, Record, BLOCK};
-use crate::calls::{record, run, Call};
-use crate::rule::{Scheduler, BLOCKED, FREE, NONE};
+use model::blocks::{write_block, Record, BLOCK};
+use model::calls::{record, run, Call};
+use model::rule::{Scheduler, BLOCKED, FREE, NONE};
 
 /// What a journal is made of.
 struct Taste {

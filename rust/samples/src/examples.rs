@@ -1,0 +1,194 @@
+//! The worked examples, one text each (`examples/*.txt`), which every test of one reads.
+//!
+//! A text is a journal as `journal run` prints it: a record a line, and behind `#` the five numbers
+//! that `mtrrun` prints for it. A line that begins with `#=` says what is so after the record above it.
+//! `journal encode` takes the texts as they stand.
+
+use std::str::FromStr;
+
+use model::accounts::Entry;
+use model::blocks::Record;
+use model::rule::{Scheduler, FREE, THREADS};
+
+use crate::records;
+
+/// An example, record by record.
+pub struct Example {
+    pub name: &'static str,
+    pub text: &'static str,
+    pub steps: Vec<Step>,
+}
+
+/// A record, the line that is printed for it, and what is so after it.
+pub struct Step {
+    pub record: Record,
+    pub printed: &'static str,
+    pub facts: Vec<Fact>,
+}
+
+#[derive(Debug)]
+pub enum Fact {
+    /// The lag of a thread.
+    Lag(u8, i64),
+    /// The share of a thread.
+    Share(u8, u64),
+    /// What is left of a thread's allotment.
+    Allotment(u8, i32),
+    /// The tag of a best-effort thread.
+    Tag(u8, u64),
+    /// The virtual time.
+    Time(u64),
+    Meter(u64),
+    /// The threads in the order of the list.
+    List(Vec<u8>),
+    /// The threads in the order of the roster.
+    Roster(Vec<u8>),
+    /// What `mtrwhy` prints about this record.
+    Why(String),
+}
+
+macro_rules! example {
+    ($name:literal) => {
+        Example::read($name, include_str!(concat!("../examples/", $name, ".txt")))
+    };
+}
+
+/// All of them.
+pub fn all() -> Vec<Example> {
+    vec![
+        example!("listing"),
+        example!("edges"),
+        example!("best-effort"),
+        example!("why"),
+    ]
+}
+
+/// The listing of RULE 10.1.
+pub fn listing() -> Example {
+    example!("listing")
+}
+
+impl Example {
+    fn read(name: &'static str, text: &'static str) -> Example {
+        let mut steps: Vec<Step> = Vec::new();
+        for line in text.lines() {
+            if let Some(fact) = line.strip_prefix("#=") {
+                let step = steps.last_mut().expect("a fact stands after a record");
+                step.facts.push(fact_of(fact.trim()));
+            } else if !line.starts_with('#') && !line.is_empty() {
+                let (record, printed) = line.split_once('#').expect(line);
+                steps.push(Step {
+                    record: record_of(record),
+                    printed: printed.trim(),
+                    facts: Vec::new(),
+                });
+            }
+        }
+        Example { name, text, steps }
+    }
+
+    pub fn records(&self) -> Vec<Record> {
+        self.steps.iter().map(|step| step.record).collect()
+    }
+
+    /// The blocks of its records.
+    pub fn journal(&self) -> Vec<u8> {
+        records::journal(&self.records())
+    }
+
+    /// All that `mtrrun` prints.
+    pub fn printed(&self) -> String {
+        let lines = self.steps.iter().map(|step| format!("{}\n", step.printed));
+        lines.collect()
+    }
+
+    /// The records that it tells an answer of `mtrwhy` for, and the answers.
+    pub fn questions(&self) -> Vec<(usize, &str)> {
+        let mut asked = Vec::new();
+        for (n, step) in self.steps.iter().enumerate() {
+            for fact in &step.facts {
+                if let Fact::Why(answer) = fact {
+                    asked.push((n, answer.as_str()));
+                }
+            }
+        }
+        asked
+    }
+}
+
+impl Fact {
+    /// Whether it is so in the model's state. An answer of `mtrwhy` is of no state.
+    pub fn holds(&self, s: &Scheduler) -> bool {
+        let thread = |n: u8| &s.threads[n as usize];
+        match self {
+            Fact::Lag(n, lag) => s.lag(*n as u64) == Ok(*lag),
+            Fact::Share(n, share) => s.share(*n as u64) == Ok(*share),
+            Fact::Allotment(n, left) => thread(*n).allotment == *left,
+            Fact::Tag(n, tag) => thread(*n).tag == *tag,
+            Fact::Time(time) => s.time == *time,
+            Fact::Meter(meter) => s.meter == *meter,
+            Fact::List(list) => s.list() == list,
+            Fact::Roster(numbers) => roster(s) == *numbers,
+            Fact::Why(_) => true,
+        }
+    }
+}
+
+/// The threads in the order of the model's roster.
+pub fn roster(s: &Scheduler) -> Vec<u8> {
+    let mut table = [Entry::default(); THREADS];
+    assert_eq!(s.roster(&mut table), 0);
+    let admitted = s.threads.iter().filter(|t| t.status != FREE).count();
+    table[..admitted].iter().map(|e| e.number as u8).collect()
+}
+
+fn number<T: FromStr>(word: &str) -> T {
+    let plain = word.replace(',', "");
+    plain
+        .parse()
+        .unwrap_or_else(|_| panic!("no number: {word}"))
+}
+
+fn fact_of(text: &'static str) -> Fact {
+    let (name, rest) = text.split_once(' ').expect(text);
+    let words: Vec<&str> = rest.split_whitespace().collect();
+    let threads = || words.iter().map(|word| number(word)).collect();
+    match (name, &words[..]) {
+        ("lag", [n, lag]) => Fact::Lag(number(n), number(lag)),
+        ("share", [n, share]) => Fact::Share(number(n), number(share)),
+        ("allotment", [n, left]) => Fact::Allotment(number(n), number(left)),
+        ("tag", [n, tag]) => Fact::Tag(number(n), number(tag)),
+        ("time", [time]) => Fact::Time(number(time)),
+        ("meter", [meter]) => Fact::Meter(number(meter)),
+        ("list", _) => Fact::List(threads()),
+        ("roster", _) => Fact::Roster(threads()),
+        ("why", _) => Fact::Why(rest.split(" / ").map(|line| format!("{line}\n")).collect()),
+        _ => panic!("no fact: {text}"),
+    }
+}
+
+fn record_of(line: &str) -> Record {
+    let words: Vec<&str> = line.split_whitespace().collect();
+    match words[..] {
+        ["start", "thousandth", m, "interval", p] => records::start(number(m), number(p), 0),
+        ["start", "thousandth", m, "interval", p, "overrun", o] => {
+            records::start(number(m), number(p), number(o))
+        }
+        ["open", n, "parent", g, "ceiling", c] => records::open(number(n), number(g), number(c)),
+        ["close", n] => records::close(number(n)),
+        ["admit", n, "group", g, "reservation", f] => {
+            records::admit(number(n), number(g), number(f))
+        }
+        ["admit", n, "weight", w] => records::admit_weight(number(n), number(w)),
+        ["remove", n] => records::remove(number(n)),
+        ["wake", n] => records::wake(number(n)),
+        ["change", n, "reservation", f] => records::change(number(n), number(f)),
+        ["dispatch"] => records::dispatch(),
+        ["report", reason, used] => {
+            let reasons = ["tick", "block", "yield", "exit"];
+            let reason = reasons.iter().position(|word| *word == reason).expect(line);
+            records::report(reason as u64, number(used))
+        }
+        _ => panic!("no record: {line}"),
+    }
+}
