@@ -9,6 +9,7 @@ use std::str::FromStr;
 use model::accounts::Entry;
 use model::blocks::Record;
 use model::rule::{Scheduler, FREE, THREADS};
+use model::table::{standard, Line, Row, Table};
 
 use crate::records;
 
@@ -191,4 +192,58 @@ fn record_of(line: &str) -> Record {
         }
         _ => panic!("no record: {line}"),
     }
+}
+
+/// The numbers in one field of a table's line: "10, 5, 1", "0 or 11".
+fn numbers(field: &str) -> Vec<u64> {
+    let parts = field.split([',', ' ']).filter(|word| !word.is_empty());
+    parts.filter(|word| *word != "or").map(number).collect()
+}
+
+/// The rows of a field: "8–10: 40, 1–7: 10".
+fn rows(field: &str) -> Table {
+    let mut table = Table::default();
+    for (row, text) in table.rows.iter_mut().zip(field.split(", ")) {
+        let (ends, reservation) = text.split_once(": ").expect(field);
+        let (first, last) = ends.split_once('–').expect(field);
+        *row = Row {
+            first: number(first),
+            last: number(last),
+            reservation: number(reservation),
+        };
+    }
+    table
+}
+
+/// The lookups of RULE 10.7: a table, the priority asked for, and the answer.
+pub fn priorities() -> Vec<(Table, u64, Line)> {
+    let rule = include_str!("../../../docs/RULE.md");
+    let (_, section) = rule.split_once("**10.7 ").expect("RULE 10.7");
+    let (section, _) = section.split_once("\n**10.8 ").expect("RULE 10.8");
+    let mut table = Table::default();
+    let mut lookups = Vec::new();
+    let lines = section.lines().filter(|line| line.starts_with('|'));
+    for line in lines.skip(2) {
+        let fields: Vec<&str> = line.trim_matches('|').split('|').map(str::trim).collect();
+        let [text, counts, asked, answer, place, reservation] = fields[..] else {
+            panic!("six fields: {line}");
+        };
+        match text {
+            "the same" => {}
+            "the standard table" => table = standard(),
+            _ => table = rows(text),
+        }
+        let (place, given) = (numbers(place), numbers(reservation));
+        for count in numbers(counts) {
+            for (i, &priority) in numbers(asked).iter().enumerate() {
+                let line = Line {
+                    answer: number(answer),
+                    place: place.first().map_or(0, |&place| place as u32),
+                    reservation: given.get(i).map_or(0, |&given| given as u32),
+                };
+                lookups.push((Table { count, ..table }, priority, line));
+            }
+        }
+    }
+    lookups
 }
