@@ -75,12 +75,6 @@ impl Late {
         self.least += other.least;
     }
 
-    /// Accepted reports of more than the slice.
-    pub fn overruns(&self) -> u64 {
-        let all = [self.left, self.even, self.debt];
-        all.iter().flatten().sum()
-    }
-
     /// Each kind of report has occurred at least so often.
     pub fn all_reports(&self, times: u64) -> bool {
         let by_reason = [self.left, self.even, self.debt];

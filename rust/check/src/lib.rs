@@ -2,8 +2,7 @@
 //!
 //! - [`compare`]: a call on both sides, asserted equal.
 //! - [`bytes`]: the bytes that cross the boundary.
-//! - [`blocks`]: blocks written and read on both sides.
-//! - [`share`]: a share by its meaning, and what occurred of shares.
+//! - [`share`]: what occurred of shares.
 //! - [`late`]: what occurred of overruns.
 //! - [`changes`]: what occurred of changes of a reservation.
 //! - [`best_effort`]: what occurred of best-effort threads.
@@ -29,7 +28,6 @@ mod sorts;
 pub mod antt;
 pub mod attack;
 pub mod best_effort;
-pub mod blocks;
 pub mod bytes;
 pub mod changes;
 pub mod compare;

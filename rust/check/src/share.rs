@@ -1,26 +1,7 @@
-//! The share by its meaning, in wide integers, and what occurred of shares, so
-//! that a test can ask that all of it did.
+//! What occurred of shares, so that a test can ask that all of it did.
 
 use model::rule::Scheduler;
 use std::cmp::Ordering;
-
-/// Ticks in thousandths of the growth, half up, and a half that comes to an odd
-/// number one less; 0 without growth.
-pub fn to_nearest(ticks: u128, growth: u128) -> u128 {
-    if growth == 0 {
-        return 0;
-    }
-    let (sum, whole) = (2000 * ticks + growth, 2 * growth);
-    let half = sum % whole == 0;
-    sum / whole - u128::from(half && sum / whole % 2 == 1)
-}
-
-/// Twice the distance between share × growth and 1000 × ticks is at most the
-/// growth, and where it is the growth the share is even.
-pub fn is_nearest(share: u128, ticks: u128, growth: u128) -> bool {
-    let twice = 2 * (share * growth).abs_diff(1000 * ticks);
-    twice < growth || twice == growth && share.is_multiple_of(2)
-}
 
 /// Shares by how they were rounded.
 #[derive(Clone, Copy, Debug, Default, PartialEq, Eq)]

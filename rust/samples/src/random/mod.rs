@@ -17,7 +17,7 @@ pub use calls::call;
 pub use hostile::hostile_state;
 pub use journals::{any_record, journal};
 pub use states::sound_state;
-pub use tables::{all_rows, all_tables, any_table, asked_priority, damaged_tables, usable_table};
+pub use tables::{any_table, asked_priority, damaged_tables, usable_table};
 
 /// SplitMix64.
 #[derive(Clone, Debug)]

@@ -1,15 +1,15 @@
 //! The documents name what is there: every section of docs/RULE.md that is
 //! cited exists, and so does every definition and theorem in docs/PROOFS.md.
 //! The published table of priorities is that of the code, the library and the model, and so is the standard table.
-//! The table of kinds is that of the library and the model, and the example of best-effort threads is what they, `mtrrun` and `mtrwhy` give.
+//! The table of kinds is that of the library and the model, and the tables of the worked examples are those that the tests run.
 //! The examples of the manual page of `mtrwhy` print what stands there.
 
-use check::compare::{both, start, to_library, to_model_table};
-use check::program::{self, Folder};
-use model::blocks::{fields, kind, write_block, Record, BLOCK};
-use model::calls::{record, Call};
-use model::rule::{priority, Reply, Scheduler, Thread};
+use check::compare::to_model_table;
+use model::blocks::{fields, Record, BLOCK};
+use model::calls::run;
+use model::rule::{priority, Scheduler};
 use mtr::{numbers, raw};
+use samples::{examples, records};
 use std::collections::BTreeSet;
 use std::fs;
 use std::path::{Path, PathBuf};
@@ -342,32 +342,23 @@ fn the_table_of_kinds() {
     assert_eq!(numbers::write_block(&mut [0; BLOCK], 0, &[next]), 19);
 }
 
-/// A call as RULE 10.8 writes it: its name and its numbers.
-fn described(text: &str) -> Option<Call> {
+/// A record as RULE 10 writes it: its name and its numbers.
+fn described(text: &str) -> Record {
     let numbers: Vec<u64> = text
         .split(|c: char| !c.is_ascii_digit())
         .filter_map(|word| word.parse().ok())
         .collect();
-    let name = text
-        .find(|c: char| c.is_ascii_digit())
-        .map(|at| &text[..at]);
-    Some(match (name.unwrap_or(text).trim(), &numbers[..]) {
-        ("admit best-effort", &[number, weight]) => Call::AdmitBestEffort { number, weight },
-        ("admit", &[number, group, reservation]) => Call::Admit {
-            number,
-            group,
-            reservation,
-        },
-        ("wake", &[number]) => Call::Wake { number },
-        ("dispatch", []) => Call::Dispatch,
-        ("report", &[reason, used]) => Call::Report { reason, used },
-        ("change", &[number, reservation]) => Call::Change {
-            number,
-            reservation,
-        },
-        ("start, m =", &[100, 20_000]) => return None,
+    let digit = text.find(|c: char| c.is_ascii_digit());
+    match (text[..digit.unwrap_or(text.len())].trim(), &numbers[..]) {
+        ("start, m =", &[m, p]) => records::start(m as u16, p as u32, 0),
+        ("admit best-effort", &[number, weight]) => records::admit_weight(number, weight),
+        ("admit", &[number, group, amount]) => records::admit(number, group, amount),
+        ("wake", &[number]) => records::wake(number),
+        ("dispatch", []) => records::dispatch(),
+        ("report", &[reason, used]) => records::report(reason, used),
+        ("change", &[number, reservation]) => records::change(number, reservation),
         _ => panic!("{text}"),
-    })
+    }
 }
 
 /// A number that is written in groups of three.
@@ -375,83 +366,55 @@ fn grouped(text: &str) -> u64 {
     text.replace(',', "").parse().unwrap()
 }
 
-/// RULE 10.8, line by line: the library beside the model, with the tags and the virtual time; as a journal `mtrrun` and `mtrwhy`.
+/// The tables of RULE 10.1 and 10.8 are the worked examples that the tests run, line by line, with the tags and the virtual time of 10.8.
 #[test]
-fn the_example_of_best_effort_threads() {
+fn the_tables_of_the_examples() {
     let rule = read(&root().join("docs/RULE.md"));
-    let text = || part(&rule, "**10.8 ", "**10.9 ");
-    let lines = rows(text());
-    assert_eq!(lines.len(), 30);
-    let mut s = Scheduler::default();
-    let mut records = Vec::new();
-    let mut printed = String::new();
-    for (i, row) in lines.iter().enumerate() {
-        let [line, call, two, nine, time, _] = row[..] else {
-            panic!("{row:?}");
-        };
-        let reply = match described(call) {
-            Some(call) => {
-                records.push(record(call));
-                both(&mut s, call)
+    let all = examples::all();
+    for (name, section, next) in [
+        ("listing", "**10.1 ", "**10.2 "),
+        ("best-effort", "**10.8 ", "**10.9 "),
+    ] {
+        let example = all.iter().find(|e| e.name == name).unwrap();
+        let lines = rows(part(&rule, section, next));
+        assert_eq!(lines.len(), example.steps.len());
+        let mut s = Scheduler::default();
+        for (row, step) in lines.iter().zip(&example.steps) {
+            assert_eq!(row[0], format!("`{}`", step.printed), "{name}");
+            assert_eq!(described(row[1]), step.record, "{name} {}", row[0]);
+            run(&mut s, &step.record);
+            let &[_, _, two, nine, time, _] = &row[..] else {
+                continue;
+            };
+            for (thread, cell) in [(&s.threads[2], two), (&s.threads[9], nine)] {
+                assert_eq!(thread.is_best_effort(), !cell.is_empty());
+                assert!(cell.is_empty() || thread.tag == 240_240 * grouped(cell));
             }
-            None => {
-                s = start(100, 20_000, 0).unwrap();
-                records.push(Record {
-                    kind: kind::START,
-                    amount: 100,
-                    ticks: 20_000,
-                    ..Record::default()
-                });
-                Reply::default()
-            }
-        };
-        let (answer, thread) = (reply.answer, reply.thread);
-        let said = format!("{i} {answer} {thread} {} {}", reply.slice, reply.before);
-        assert_eq!(line, format!("`{said}`"));
-        printed += &format!("{said}\n");
-        for (number, cell) in [(2, two), (9, nine)] {
-            let t: &Thread = &s.threads[number];
-            assert_eq!(t.is_best_effort(), !cell.is_empty());
-            if !cell.is_empty() {
-                assert_eq!(t.tag, 240_240 * grouped(cell), "{line}");
-            }
+            assert_eq!(s.time, 240_240 * grouped(time), "{}", row[0]);
         }
-        assert_eq!(s.time, 240_240 * grouped(time), "{line}");
     }
-    let end = text().collect::<Vec<_>>().join(" ");
-    for number in [s.threads[2].tag, s.threads[9].tag, s.time, s.meter] {
-        let mut digits = number.to_string();
-        for at in (1..digits.len())
-            .rev()
-            .filter(|at| (digits.len() - at) % 3 == 0)
-            .collect::<Vec<_>>()
-        {
-            digits.insert(at, ',');
-        }
-        assert!(end.contains(&digits), "{digits}");
+    // The last paragraph of 10.8: what `mtrwhy` gives, in backquotes, before each number of a record.
+    let example = all.iter().find(|e| e.name == "best-effort").unwrap();
+    let end: Vec<&str> = part(&rule, "**10.8 ", "**10.9 ").collect();
+    let end = end.join(" ");
+    let facts = example.text.rsplit_once("dispatch").unwrap().1;
+    for number in facts.lines().filter_map(|line| line.split(' ').nth(3)) {
+        assert!(end.contains(number), "{number}");
     }
-    let mut table = [numbers::Entry::default(); 3];
-    assert_eq!(numbers::roster(to_library(&s), &mut table), 0);
-    let found = table.map(|e| (e.number, e.lag, e.allotment, e.share));
-    let wanted = [(5, 10_000_000, 38_000, 88), (2, 0, 0, 401), (9, 0, 0, 511)];
-    assert_eq!(found, wanted);
-    assert!(end.contains("The roster is 5, 2, 9, with the allotments 38,000, 0 and 0 and the shares 88, 401 and 511."));
-
-    let mut journal = [0; BLOCK];
-    assert_eq!(write_block(&mut journal, 0, &records), 0);
-    assert_eq!(program::printed(&journal, &[BLOCK]), printed.as_bytes());
-    let folder = Folder::new("documents");
-    let path = folder.file("journal", &journal);
-    // Its last paragraph: what `mtrwhy` gives, in backquotes, before each number of a record.
     let (_, causes) = end.split_once("`mtrwhy` gives ").unwrap();
-    let mut asked = 0;
-    for part in causes.split(" for record ").collect::<Vec<_>>().windows(2) {
-        let answer: Vec<&str> = part[0].split('`').skip(1).step_by(2).collect();
-        let wanted: String = answer.iter().map(|line| format!("{line}\n")).collect();
-        assert_eq!(program::answered(&path, number(part[1])), wanted.as_bytes());
-        asked += 1;
-    }
-    assert_eq!(asked, 5);
+    let told: Vec<(usize, String)> = causes
+        .split(" for record ")
+        .collect::<Vec<_>>()
+        .windows(2)
+        .map(|part| {
+            let answer = part[0].split('`').skip(1).step_by(2);
+            let lines = answer.map(|line| format!("{line}\n")).collect();
+            (number(part[1]).parse().unwrap(), lines)
+        })
+        .collect();
+    let asked = example.questions();
+    let asked = asked.into_iter().map(|(n, answer)| (n, answer.to_string()));
+    assert!(asked.eq(told));
 }
 
 /// Runs a command at the root, with the proved programs on the path.

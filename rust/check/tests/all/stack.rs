@@ -8,7 +8,7 @@ const MOST_OF_ROSTER: usize = 17_000;
 const SPARE: usize = 600;
 
 fn stated() -> Vec<(String, usize)> {
-    let text = include_str!("../../boundary/costs.txt");
+    let text = include_str!("../../../boundary/costs.txt");
     let lines = text.lines().filter(|line| !line.starts_with('#'));
     lines
         .map(|line| {

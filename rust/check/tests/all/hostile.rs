@@ -86,7 +86,7 @@ fn a_million_calls() {
 /// No exported function is left out.
 #[test]
 fn every_function() {
-    let declared: Vec<&str> = include_str!("../../mtr/src/raw.rs")
+    let declared: Vec<&str> = include_str!("../../../mtr/src/raw.rs")
         .lines()
         .filter_map(|line| line.split_once(" fn ")?.1.split_once('('))
         .map(|(name, _)| name)
@@ -177,7 +177,7 @@ fn the_guard_catches() {
     let program = std::env::current_exe().unwrap();
     for (name, fatal) in TOUCHES {
         let child = Command::new(&program)
-            .args(["--exact", "the_guard_catches"])
+            .args(["--exact", "hostile::the_guard_catches"])
             .env(TOUCH, name)
             .output()
             .unwrap();

@@ -2,11 +2,12 @@
 
 use check::program::{answered, mtrwhy, root, shipped, silent, Folder};
 use check::why::{drawn, rarer, sort_of, sorts, Named, Sort, Sorts, FAR};
-use model::blocks::{kind, read_block, write_block, Record, BLOCK, RECORDS};
-use model::calls::{apply, record, Call};
+use model::blocks::{read_block, Record, BLOCK, RECORDS};
+use model::calls::run;
 use model::rule::{Scheduler, BLOCKED, NONE};
 use model::why::why;
 use samples::random::{blocking, journal, Rng};
+use samples::records;
 use std::io::{pipe, Read, Write};
 use std::path::Path;
 use std::process::Stdio;
@@ -64,14 +65,10 @@ fn compare(
 
 #[test]
 fn generated_journals() {
-    let seen = compare("generated", journal, 50, 1000, 20);
-    assert!(rarer(&seen, 5).is_empty(), "{seen:?}");
-}
-
-#[test]
-fn journals_with_many_blocked() {
-    let seen = compare("blocking", blocking, 51, 1000, 20);
-    assert_eq!(rarer(&seen, 100), [Sort::InShort], "{seen:?}");
+    let mut seen = compare("generated", journal, 50, 250, 3);
+    for (sort, times) in compare("blocking", blocking, 51, 250, 3) {
+        *seen.entry(sort).or_default() += times;
+    }
     assert!(rarer(&seen, 5).is_empty(), "{seen:?}");
 }
 
@@ -128,7 +125,7 @@ fn feed(mut to: impl Write, input: &[u8], pieces: &[usize]) {
 fn odd_pieces() {
     let mut r = Rng::new(53);
     let mut seen = Sorts::new();
-    for round in 0..600 {
+    for round in 0..150 {
         let input = if round % 2 == 0 {
             blocking(&mut r)
         } else {
@@ -143,7 +140,7 @@ fn odd_pieces() {
         }
     }
     println!("{seen:?}");
-    assert!(rarer(&seen, 5).is_empty(), "{seen:?}");
+    assert!(rarer(&seen, 1).is_empty(), "{seen:?}");
 }
 
 /// A pipe with a name.
@@ -180,35 +177,20 @@ fn long(r: &mut Rng, blocks: usize) -> Vec<[u8; BLOCK]> {
             Some(t) => t.slice(&s.settings) as u64,
             None => 0,
         };
-        let call = if s.count < 8 {
-            Call::Admit {
-                number: s.count as u64,
-                group: 0,
-                reservation: 100,
-            }
+        let made = if s.count < 8 {
+            records::admit(s.count as u64, 0, 100)
         } else if s.running != NONE {
-            Call::Report {
-                reason: r.pick(&[0, 1, 1]),
-                used: r.below(slice + 1),
-            }
+            records::report(r.pick(&[0, 1, 1]), r.below(slice + 1))
         } else if blocked.len() > 2 && r.chance(1, 2) {
-            Call::Wake {
-                number: r.pick(&blocked),
-            }
+            records::wake(r.pick(&blocked))
         } else {
-            Call::Dispatch
+            records::dispatch()
         };
-        assert_eq!(apply(&mut s, call).answer, 0);
-        list.push(record(call));
+        assert_eq!(run(&mut s, &made).answer, 0);
+        list.push(made);
     }
-    let areas = list.chunks(RECORDS).enumerate();
-    areas.map(|(n, part)| written(n, part)).collect()
-}
-
-fn written(number: usize, records: &[Record]) -> [u8; BLOCK] {
-    let mut area = [0; BLOCK];
-    assert_eq!(write_block(&mut area, number as u32, records), 0);
-    area
+    let areas = (0..).zip(list.chunks(RECORDS));
+    areas.map(|(n, part)| records::block(n, part)).collect()
 }
 
 /// Journals that end at a piece's end, before it and after it, asked about blocks at the ends of pieces, as a file and as a
@@ -218,11 +200,11 @@ fn pieces_of_blocks() {
     let folder = Folder::new("pieces");
     let mut r = Rng::new(55);
     let mut seen = Sorts::new();
-    for blocks in [1, 31, 32, 33, 63, 64, 65, 96] {
+    for blocks in [1, 31, 32, 33, 65] {
         let input = long(&mut r, blocks).concat();
         let path = folder.file("journal", &input);
         let sorts = sorts(&input);
-        for place in [0, 1, 30, 31, 32, 33, 62, 63, 64, 65, 95, 96] {
+        for place in [0, 30, 31, 32, 33, 64, 65] {
             let numbers = RECORDS * place..RECORDS * (place + 1);
             let mut of: Vec<usize> = numbers.clone().collect();
             of.retain(|&n| sort_of(&sorts, n as u64).is_dispatch());
@@ -246,7 +228,7 @@ fn pieces_of_blocks() {
     println!("{seen:?}");
     let several = Sort::Chosen(Named::Several);
     assert!(
-        seen[&several] > 50 && seen[&Sort::PastTheEnd] > 50,
+        seen[&several] > 20 && seen[&Sort::PastTheEnd] > 20,
         "{seen:?}"
     );
 }
@@ -258,27 +240,21 @@ fn refused_blocks() {
     let mut r = Rng::new(56);
     let mut seen = Sorts::new();
     let blocks = long(&mut r, 40);
-    for bad in [0, 1, 15, 31, 32, 39] {
+    for bad in [0, 15, 31, 32, 39] {
         let mut damaged = blocks.clone();
         damaged[bad][r.below(BLOCK as u64) as usize] ^= 1;
         // Two blocks later a start and the records of the first block again.
         let again = bad + 2;
         if again < 39 {
-            let mut records = read_block(&blocks[0], 0).unwrap();
-            records.truncate(RECORDS - 1);
-            let start = Record {
-                kind: kind::START,
-                amount: 100,
-                ticks: 20_000,
-                ..Record::default()
-            };
-            records.insert(0, start);
-            damaged[again] = written(again, &records);
+            let mut list = read_block(&blocks[0], 0).unwrap();
+            list.truncate(RECORDS - 1);
+            list.insert(0, records::start(100, 20_000, 0));
+            damaged[again] = records::block(again as u32, &list);
         }
         let (whole, input) = (blocks.concat(), damaged.concat());
         let path = folder.file("journal", &input);
         let sorts = sorts(&input);
-        for place in [0, 1, 2, 14, 15, 16, 17, 18, 30, 31, 32, 33, 34, 35, 39] {
+        for place in [0, 2, 14, 15, 17, 30, 31, 32, 33, 34, 39] {
             for n in RECORDS * place..RECORDS * (place + 1) {
                 let n = n as u64;
                 if !sorts[n as usize].is_dispatch() {
@@ -296,7 +272,7 @@ fn refused_blocks() {
         }
     }
     println!("{seen:?}");
-    assert!(seen[&Sort::Stopped] > 50, "{seen:?}");
+    assert!(seen[&Sort::Stopped] > 20, "{seen:?}");
 }
 
 /// The program reads up to the end of the record's block and no further; all if there is no such block. With a bad argument it

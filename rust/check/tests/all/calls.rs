@@ -1,0 +1,146 @@
+//! Random calls from sound states and from the start, the library beside the model: every answer of every call, overruns, changes and
+//! best-effort threads of every sort. States that are not sound are the hostile host's.
+
+use check::best_effort::quiet_call;
+use check::compare::{both, sound, start, Tally, KINDS};
+use model::calls::Call;
+use model::rule::{Scheduler, METER_LIMIT, NONE};
+use samples::random::{call, edge_value, sound_state, Rng};
+
+/// The answers of each call on a sound state.
+const ANSWERS: [&[u32]; 9] = [
+    &[0, 2, 3, 4, 5],
+    &[0, 2, 6],
+    &[0, 2, 4, 5, 7, 8],
+    &[0, 7, 9],
+    &[0, 7, 10],
+    &[0, 12, 15],
+    &[0, 11, 13, 14],
+    &[0, 4, 5, 7, 9],
+    &[0, 4, 7, 8],
+];
+
+#[test]
+fn from_sound_states() {
+    let mut r = Rng::new(31);
+    let mut tally = Tally::default();
+    let (mut running, mut full, mut last) = (0, 0, 0);
+    while tally.total() < 400_000 {
+        let mut s = sound_state(&mut r);
+        assert!(sound(&s));
+        running += (s.running != NONE) as u32;
+        full += (s.count == 64) as u32;
+        last += (s.meter >= METER_LIMIT - 1_000) as u32;
+        for _ in 0..15 {
+            let c = call(&mut r, &s);
+            tally.both(&mut s, c);
+        }
+        assert!(sound(&s));
+    }
+    tally.print();
+    for (k, name) in KINDS.iter().enumerate() {
+        assert_eq!(tally.seen(k, 1), ANSWERS[k], "{name}");
+        assert_eq!(tally.seen(k, 50), ANSWERS[k], "{name}");
+    }
+    assert!(tally.idle > 1_000);
+    assert!(tally.late.all_reports(10), "{:?}", tally.late);
+    assert!(tally.changes.rarer(50).is_empty(), "{:?}", tally.changes);
+    let best_effort = tally.best_effort;
+    assert!(best_effort.rarer(50).is_empty(), "{best_effort:?}");
+    assert!(running > 1_000 && full > 1_000 && last > 1_000);
+}
+
+/// An overrun limit for m: mostly an allowed one, m itself or any.
+fn limit(r: &mut Rng, m: u64) -> u64 {
+    match r.below(8) {
+        0 => edge_value(r),
+        1 => m,
+        2 => 0,
+        _ => r.edgy(0, m.saturating_sub(1)),
+    }
+}
+
+/// So many calls from start states, each drawn so.
+fn from_start(seed: u64, least: u64, next: fn(&mut Rng, &Scheduler) -> Call) -> Tally {
+    let mut r = Rng::new(seed);
+    let mut tally = Tally::default();
+    while tally.total() < least {
+        let (m, p) = match r.below(4) {
+            0 => (100, 20_000),
+            1 => (edge_value(&mut r), edge_value(&mut r)),
+            2 => (r.edgy(0, 1_001), r.edgy(0, 1_000_001)),
+            _ => (r.edgy(1, 1_000), r.edgy(1, 1_000_000)),
+        };
+        let o = limit(&mut r, m);
+        let started = start(m, p, o);
+        tally.late.start(m, p, o, started.err().unwrap_or(0));
+        let Ok(mut s) = started else { continue };
+        // At the start the list is empty; long runs fill and empty it.
+        for _ in 0..r.edgy(0, 4_000) {
+            let c = next(&mut r, &s);
+            tally.both(&mut s, c);
+        }
+        assert!(sound(&s));
+    }
+    tally.print();
+    for (k, name) in KINDS.iter().enumerate() {
+        // The meter's limit is some 10^7 reports away.
+        let mut wanted = ANSWERS[k].to_vec();
+        wanted.retain(|&a| a != 15);
+        assert_eq!(tally.seen(k, 1), wanted, "{name}");
+        assert_eq!(tally.seen(k, 20), wanted, "{name}");
+    }
+    assert!(tally.idle > 20);
+    tally
+}
+
+#[test]
+fn from_the_start_state() {
+    let tally = from_start(32, 200_000, call);
+    let (late, changes) = (tally.late, tally.changes);
+    assert!(late.all_reports(5) && late.all_starts(5), "{late:?}");
+    assert!(changes.rarer(20).is_empty(), "{changes:?}");
+}
+
+/// The same with time for best-effort threads.
+#[test]
+fn from_the_start_state_with_idle_time() {
+    let tally = from_start(38, 200_000, quiet_call);
+    // The meter's limit is as far away, and no call writes a best-effort thread's allotment.
+    let never = [
+        "15 where one is runnable",
+        "reported with another allotment than 0 in its entry",
+    ];
+    assert_eq!(tally.best_effort.rarer(1), never);
+    let mut rare = tally.best_effort.rarer(50);
+    rare.retain(|sort| !never.contains(sort) && *sort != "finish tag at its end");
+    assert!(rare.is_empty(), "{:?}", tally.best_effort);
+}
+
+/// 64 threads of which one after the other blocks, then all are woken: how many stand before the chosen one.
+#[test]
+fn a_full_list() {
+    let mut s = start(100, 20_000, 0).unwrap();
+    for n in 0..64 {
+        let admitted = Call::Admit {
+            number: 63 - n,
+            group: 0,
+            reservation: 15,
+        };
+        assert_eq!(both(&mut s, admitted).answer, 0);
+    }
+    for n in 0..64 {
+        let reply = both(&mut s, Call::Dispatch);
+        assert_eq!(
+            (reply.thread, reply.slice, reply.before),
+            (63 - n, 1_500, n)
+        );
+        assert_eq!(both(&mut s, Call::Report { reason: 1, used: 0 }).answer, 0);
+    }
+    let reply = both(&mut s, Call::Dispatch);
+    assert_eq!((reply.thread, reply.before), (64, 64));
+    for number in 0..64 {
+        assert_eq!(both(&mut s, Call::Wake { number }).answer, 0);
+    }
+    assert_eq!(both(&mut s, Call::Dispatch).thread, 63);
+}

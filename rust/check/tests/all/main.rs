@@ -1,0 +1,19 @@
+//! The static library, the programs, the documents and the sources, in one program.
+
+mod blocks;
+mod calls;
+mod corpus;
+mod documents;
+mod examples;
+mod guarantee;
+mod hostile;
+mod imports;
+mod meter;
+mod old_journals;
+mod profile;
+mod program;
+mod replay;
+mod stack;
+mod statements;
+mod why;
+mod why_program;
