@@ -26,8 +26,8 @@ order() { # PLACE
     esac
 }
 
-# What a call takes of the stack is more where a function stands over the library's own.
-deeper='within_its_limit as_stated'
+# What a call takes of the stack is more where a function stands over the library's own: tests of check and boundary that see it.
+deeper='within_its_limit as_stated stack'
 
 # ---- what is said
 
@@ -226,7 +226,10 @@ test_of() { # PACKAGE ARGUMENT..
 
 # What a place's tests leave out.
 left_out() { # PLACE
-    [ "$1" != boundary ] || for deep in $deeper; do printf ' --skip %s' "$deep"; done
+    [ "$1" != boundary ] || {
+        printf '%s' --exact
+        for deep in $deeper; do printf ' --skip %s' "$deep"; done
+    }
 }
 
 # All packages of a place in turn: 0 if a test fails, with $package and $test; 1 if none does; 2 as in test_of.
