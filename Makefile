@@ -1,7 +1,7 @@
 # The front door: `make` lists the commands. Each is one line that can be typed as well.
 .POSIX:
 .PHONY: help check library quick gate count lint fmt test header statements dist
-.PHONY: bench journals instructions copies costs hostile fuzz coverage pictures
+.PHONY: bench journals instructions copies costs hostile fuzz coverage faults pictures
 
 help: ## this list
 	@sed -n 's/^\([a-z]*\):.*## /\1	/p' Makefile | while IFS='	' read -r name text; do printf '  make %-14s%s\n' "$$name" "$$text"; done
@@ -68,6 +68,9 @@ fuzz: ## fuzz block reading and replay, for ten minutes or FOR= seconds (clang)
 
 coverage: ## edges of the library that the hostile host reaches (clang)
 	rust/check/fuzz/coverage.sh
+
+faults: target/staticlib/libabi.a ## set faults into a copy of the tree and see that some test notices each (after make check)
+	rust/check/faults/run.sh
 
 pictures: target/staticlib/libabi.a ## write the shipped journals and their pictures again
 	cargo run --offline --release -p journal --example cases -- --renew
