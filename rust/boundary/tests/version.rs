@@ -1,10 +1,8 @@
-//! One version: in the header, the library, the Rust crate and the changelog.
+//! One version: in the header, the Rust crate and the changelog. The library's is compared with the header's in program.c.
 
 mod common;
 
-use common::{archive, committed, folder, printed};
-use std::fs;
-use std::process::Command;
+use common::committed;
 
 /// The rest of the first line that begins so.
 fn after<'a>(text: &'a str, start: &str) -> &'a str {
@@ -32,17 +30,4 @@ fn one_number() {
     let raw = committed("rust/mtr/src/raw.rs");
     assert_eq!(after(&raw, "pub const VERSION: u32 = "), number + ";");
     assert_eq!(after(&committed("CHANGELOG.md"), "## "), version);
-}
-
-/// The library answers the number of its header.
-#[test]
-fn of_the_library() {
-    let folder = folder("version");
-    let text = "#include <mtr.h>\nint main(void) { return mtr_version() != MTR_VERSION; }\n";
-    fs::write(folder.join("a.c"), text).unwrap();
-    let include = boundary::root().join("include");
-    let mut compile = Command::new("cc");
-    compile.arg("-I").arg(include).arg("a.c").arg(archive());
-    printed(compile.args(["-o", "a"]).current_dir(&folder));
-    printed(&mut Command::new(folder.join("a")));
 }
