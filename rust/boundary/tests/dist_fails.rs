@@ -15,29 +15,12 @@ struct Repository {
     target: PathBuf,
 }
 
-const FOLDERS: [&str; 9] = [
-    "target/staticlib",
-    "target/bin",
-    "target/cargo/release",
-    "docs",
-    "examples/host/c",
-    "examples/host/rust/src",
-    "examples/priorities",
-    "include",
-    "rust/mtr/src",
-];
+const FOLDERS: &str = "target/staticlib target/bin target/cargo/release docs include rust/mtr/src
+    examples/host/c examples/host/rust/src examples/priorities";
 
-const FILES: [&str; 9] = [
-    "dist.sh",
-    "include/mtr.h",
-    "rust/mtr/build.rs",
-    "rust/mtr/Cargo.toml",
-    "examples/host/rust/Cargo.toml",
-    "docs/PROOFS.md",
-    "docs/RULE.md",
-    "docs/mtrrun.1",
-    "docs/mtrwhy.1",
-];
+const FILES: &str =
+    "dist.sh include/mtr.h rust/mtr/build.rs rust/mtr/Cargo.toml examples/host/rust/Cargo.toml
+    docs/PROOFS.md docs/RULE.md docs/mtrrun.1 docs/mtrwhy.1";
 
 const ARCHIVE: &str = "target/staticlib/libabi.a";
 
@@ -53,10 +36,10 @@ impl Repository {
     fn new(name: &str) -> Repository {
         let above = folder(name);
         let root = above.join("repository");
-        for part in FOLDERS {
+        for part in FOLDERS.split_whitespace() {
             fs::create_dir_all(root.join(part)).unwrap();
         }
-        for part in FILES {
+        for part in FILES.split_whitespace() {
             fs::copy(boundary::root().join(part), root.join(part)).unwrap();
         }
         for (file, name) in BUILT {

@@ -1,5 +1,5 @@
 //! The committed header and declarations: up to date, and the same sizes,
-//! offsets and constants in both.
+//! offsets, constants and version in both.
 
 mod common;
 
@@ -120,24 +120,6 @@ fn both_assert_the_same() {
     assert_eq!(c, asserted_in_rust());
 }
 
-/// No byte of a struct at the boundary is padding: its fields lie one behind the other, from its beginning to its end.
-#[test]
-fn fields_add_up() {
-    let layout = asserted_in_c();
-    let structs = layout.keys().filter(|key| key.1.is_empty());
-    for (name, _) in structs.filter(|key| key.0 != "size_t") {
-        let of = |key: &&(String, String)| key.0 == *name && !key.1.is_empty();
-        let mut fields: Vec<[u64; 2]> = layout.keys().filter(of).map(|key| layout[key]).collect();
-        fields.sort_unstable();
-        let mut end = 0;
-        for [offset, size] in fields {
-            assert_eq!(offset, end, "{name}");
-            end += size;
-        }
-        assert_eq!(end, layout[&(name.clone(), String::new())][0], "{name}");
-    }
-}
-
 /// Every constant has the same value in both.
 #[test]
 fn both_have_the_same_constants() {
@@ -234,4 +216,33 @@ fn the_machine_is_as_stated() {
     }
     let x87 = code.iter().filter(|c| c.starts_with('f')).count();
     assert_eq!(x87, 0);
+}
+
+/// The rest of the first line that begins so.
+fn after<'a>(text: &'a str, start: &str) -> &'a str {
+    let mut lines = text.lines();
+    lines
+        .find_map(|line| line.strip_prefix(start))
+        .unwrap_or_else(|| panic!("no line begins with {start}"))
+}
+
+/// One version: in the header, the Rust crate and the changelog. The library's is compared with the header's in program.c.
+#[test]
+fn one_version() {
+    let manifest = committed("rust/mtr/Cargo.toml");
+    let version = after(&manifest, "version = ").trim_matches('"');
+    let parts: Vec<u32> = version.split('.').map(|n| n.parse().unwrap()).collect();
+    let [major, minor, patch] = parts[..] else {
+        panic!("{version}");
+    };
+    assert!(minor < 100 && patch < 100, "{version}");
+    let number = (10000 * major + 100 * minor + patch).to_string();
+
+    let header = committed("include/mtr.h");
+    let text = after(&header, "#define MTR_VERSION_TEXT ");
+    assert_eq!(text.trim_matches('"'), version);
+    assert_eq!(after(&header, "#define MTR_VERSION "), number);
+    let raw = committed("rust/mtr/src/raw.rs");
+    assert_eq!(after(&raw, "pub const VERSION: u32 = "), number + ";");
+    assert_eq!(after(&committed("CHANGELOG.md"), "## "), version);
 }
