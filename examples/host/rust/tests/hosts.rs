@@ -264,6 +264,7 @@ fn the_same_journal_and_the_same_answers() {
 #[test]
 fn bad_arguments() {
     let taken = scratch("bad.blocks");
+    let _ = fs::remove_file(&taken);
     let taken = taken.to_str().unwrap();
     let none = scratch("none/journal");
     let none = none.to_str().unwrap();
