@@ -2,28 +2,21 @@
 
 mod common;
 
-use common::{archive, c, committed, cpp, folder, has, printed, run, said, shown, FLAGS};
+use common::{archive, committed, compiler, folder, has, printed, run, said, shown};
 use std::fs;
 use std::process::Command;
 
-/// Every compiler with every standard: flags, and the name that a source has for it.
-fn standards() -> Vec<(&'static str, &'static str, &'static str)> {
-    let mut all = Vec::new();
-    for compiler in c() {
-        for standard in ["-std=c11", "-std=c17", "-std=c2x"] {
-            all.push((compiler, standard, "program.c"));
-        }
-    }
-    for compiler in cpp() {
-        for standard in ["-std=c++11", "-std=c++14", "-std=c++17", "-std=c++20"] {
-            all.push((compiler, standard, "program.cc"));
-        }
+/// Every compiler with the oldest and the newest standard, and the name that a source has for it. Of those between the header and the
+/// compilers make nothing that differs from both.
+fn compilers() -> Vec<(&'static str, [&'static str; 2], &'static str)> {
+    let c = ["c11", "c2x"];
+    let cpp = ["c++11", "c++20"];
+    let mut all = vec![("cc", c, "program.c"), ("c++", cpp, "program.cc")];
+    if has("clang") {
+        all.push(("clang", c, "program.c"));
+        all.push(("clang++", cpp, "program.cc"));
     }
     all
-}
-
-fn include() -> String {
-    format!("-I{}", boundary::root().join("include").display())
 }
 
 /// What the answers from 0 to this say, from the library's own list.
@@ -50,25 +43,23 @@ fn every_function() {
     let wanted = texts(24);
     let unlisted = (0..25).filter(|&i| wanted[i] == "no listed answer");
     assert!(unlisted.eq([21, 24]), "{wanted:?}");
-    for (compiler, standard, name) in standards() {
-        fs::write(folder.join(name), &source).unwrap();
-        let mut compile = Command::new(compiler);
-        compile.arg(standard).args(FLAGS).arg("-O1").arg(include());
-        if name.ends_with(".cc") {
-            compile.arg("-Wold-style-cast");
-        }
-        compile.arg(name).arg(archive()).args(["-o", "program"]);
-        assert_eq!(
-            printed(compile.current_dir(&folder)),
-            "",
-            "{compiler} {standard}"
-        );
+    for (name, [oldest, newest], file) in compilers() {
+        fs::write(folder.join(file), &source).unwrap();
+        let compiled = |standard: &str| {
+            let mut compile = compiler(name, standard);
+            if file.ends_with(".cc") {
+                compile.arg("-Wold-style-cast");
+            }
+            compile.arg(file).current_dir(&folder);
+            compile
+        };
+        let mut compile = compiled(newest);
+        assert_eq!(printed(compile.arg("-fsyntax-only")), "", "{name} {newest}");
+        let mut compile = compiled(oldest);
+        compile.arg(archive()).args(["-O1", "-o", "program"]);
+        assert_eq!(printed(&mut compile), "", "{name} {oldest}");
         let told = printed(&mut Command::new(folder.join("program")));
-        assert_eq!(
-            told.lines().collect::<Vec<_>>(),
-            wanted,
-            "{compiler} {standard}"
-        );
+        assert_eq!(told.lines().collect::<Vec<_>>(), wanted, "{name} {oldest}");
     }
 }
 
@@ -79,6 +70,7 @@ fn other_targets_are_refused() {
     for name in ["a.c", "a.cc"] {
         fs::write(folder.join(name), "#include <mtr.h>\n").unwrap();
     }
+    let include = boundary::root().join("include");
     let mut cases = vec![
         ("cc", "-std=c99", "a.c", "mtr.h needs C11 or later"),
         ("cc", "-std=c90", "a.c", "mtr.h needs C11 or later"),
@@ -94,67 +86,61 @@ fn other_targets_are_refused() {
     }
     for (compiler, flag, name, text) in cases {
         let mut compile = Command::new(compiler);
-        compile.args([flag, "-fsyntax-only", &include(), name]);
-        let output = run(compile.current_dir(&folder));
+        compile.args([flag, "-fsyntax-only", "-I"]).arg(&include);
+        let output = run(compile.arg(name).current_dir(&folder));
         assert!(!output.status.success(), "{compiler} {flag}");
         let told = said(&output);
         assert!(told.contains(text), "{compiler} {flag}: {told}");
     }
 }
 
-/// An answer that is not looked at, a state that is lost, a group for a best-effort thread, and what older versions had: a start without
-/// an overrun limit, before 2.0.0, and a thread's group by that name, before 3.0.0.
+const RIGHT: &str = "mtr_answer a = mtr_wake(&s, 5); return a == MTR_ACCEPTED;";
+
+/// Answers that are not looked at. Compilers look for these where nothing else is wrong.
+const UNUSED: [&str; 6] = [
+    "mtr_wake(&s, 5); return 0;",
+    "mtr_run r; mtr_dispatch(&s, &r); return 0;",
+    "mtr_change(&s, 5, 700); return 0;",
+    "mtr_admit_best_effort(&s, 5, 1); return 0;",
+    "mtr_sound(&s); return 0;",
+    "mtr_priority_table t = mtr_standard_table(); mtr_priority_under(&t, 5); return s.count != 0;",
+];
+
+/// A state that is lost, an answer that has a place with it, a group for a best-effort thread, and what older versions had: a start
+/// without an overrun limit, before 2.0.0, and a thread's group by that name, before 3.0.0.
+const WRONG: [&str; 6] = [
+    "mtr_answer a = mtr_dispatch(s); return a == 0;",
+    "mtr_answer a = mtr_wake(s, 5); return a == 0;",
+    "mtr_priority_table t = mtr_standard_table(); mtr_answer a = mtr_priority_under(&t, 5); return a == s.count;",
+    "mtr_answer a = mtr_admit_best_effort(&s, 5, 0, 1); return a == 0;",
+    "mtr_answer a = mtr_start(&s, 100, 20000); return a == 0;",
+    "return s.threads[5].group;",
+];
+
+/// Each mistake stands in a line of its own, behind one that is right, and the compiler complains of all of these lines alone.
 #[test]
 fn mistakes_do_not_compile() {
     let folder = folder("c-mistakes");
-    let right = "mtr_answer a = mtr_wake(&s, 5); return a == MTR_ACCEPTED;";
-    let mistakes = [
-        ("mtr_wake(&s, 5); return 0;", "unused"),
-        ("mtr_run r; mtr_dispatch(&s, &r); return 0;", "unused"),
-        ("mtr_change(&s, 5, 700); return 0;", "unused"),
-        ("mtr_admit_best_effort(&s, 5, 1); return 0;", "unused"),
-        ("mtr_sound(&s); return 0;", "unused"),
-        (
-            "mtr_priority_table t = mtr_standard_table(); mtr_priority_under(&t, 5); return s.count != 0;",
-            "unused",
-        ),
-        ("mtr_answer a = mtr_dispatch(s); return a == 0;", ""),
-        ("mtr_answer a = mtr_wake(s, 5); return a == 0;", ""),
-        // What it hands back is no answer alone.
-        (
-            "mtr_priority_table t = mtr_standard_table(); mtr_answer a = mtr_priority_under(&t, 5); return a == s.count;",
-            "mtr_priority_line",
-        ),
-        (
-            "mtr_answer a = mtr_start(&s, 100, 20000); return a == 0;",
-            "mtr_start",
-        ),
-        // It has no group.
-        (
-            "mtr_answer a = mtr_admit_best_effort(&s, 5, 0, 1); return a == 0;",
-            "mtr_admit_best_effort",
-        ),
-        // The byte is a group or a weight since version 3.0.0.
-        ("return s.threads[5].group;", "group"),
-    ];
-    for (compiler, standard, name) in standards() {
-        let compile = |body: &str| {
-            let text = format!(
-                "#include <mtr.h>\nint f(mtr_scheduler s);\nint f(mtr_scheduler s) {{ {body} }}\n"
-            );
-            fs::write(folder.join(name), text).unwrap();
-            let mut compile = Command::new(compiler);
-            compile.arg(standard).args(FLAGS).arg(include());
-            run(compile
-                .args(["-c", name, "-o", "/dev/null"])
-                .current_dir(&folder))
-        };
-        let output = compile(right);
-        assert!(output.status.success(), "{}", said(&output));
-        for (body, text) in mistakes {
-            let output = compile(body);
-            assert!(!output.status.success(), "{compiler} {standard}: {body}");
-            assert!(said(&output).contains(text), "{}", said(&output));
+    for (name, [oldest, _], file) in compilers() {
+        for (cases, text) in [(UNUSED, "unused"), (WRONG, "error: ")] {
+            let mut source = "#include <mtr.h>\n".to_string();
+            for (i, body) in [RIGHT].iter().chain(&cases).enumerate() {
+                let head = format!("int f{i}(mtr_scheduler s)");
+                source += &format!("{head}; {head} {{ {body} }}\n");
+            }
+            fs::write(folder.join(file), source).unwrap();
+            let mut compile = compiler(name, oldest);
+            compile.args(["-c", file, "-o", "out"]).current_dir(&folder);
+            let told = said(&run(&mut compile));
+            let errors = |line: usize| {
+                let at = format!("{file}:{line}:");
+                let mut lines = told.lines().filter(|l| l.starts_with(&at));
+                lines.any(|l| l.contains("error: ") && l.contains(text))
+            };
+            assert!(!errors(2), "{name}: {told}");
+            for (line, body) in (3..).zip(cases) {
+                assert!(errors(line), "{name}: {body}: {told}");
+            }
         }
     }
 }
@@ -170,21 +156,26 @@ fn stack() {
         line.split(' ').nth(1).unwrap().parse().unwrap()
     };
     let source = boundary::root().join("rust/boundary/tests/stack.c");
-    for compiler in c() {
-        for level in ["-O0", "-O1", "-O2", "-Os"] {
-            let mut compile = Command::new(compiler);
-            compile.args(["-std=c11", level, &include()]).arg(&source);
-            compile.arg(archive()).args(["-Wl,-z,now", "-o", "stack"]);
+    let include = boundary::root().join("include");
+    for (name, [oldest, _], _) in compilers() {
+        if oldest != "c11" {
+            continue;
+        }
+        for level in ["-O0", "-O2"] {
+            let mut compile = Command::new(name);
+            compile.args(["-std=c11", level, "-I"]).arg(&include);
+            compile.arg(&source).arg(archive());
+            compile.args(["-Wl,-z,now", "-o", "stack"]);
             assert_eq!(printed(compile.current_dir(&folder)), "");
             let told = printed(&mut Command::new(folder.join("stack")));
             assert_eq!(told.lines().count(), 19, "{told}");
             for line in told.lines() {
-                let (name, taken) = line.split_once(' ').unwrap();
+                let (call, taken) = line.split_once(' ').unwrap();
                 let taken: usize = taken.parse().unwrap();
                 // Without optimisation a compiler may copy the records of a block once more.
-                let more = if name == "write_block" { 600 } else { 160 };
-                let most = stated(name) + more;
-                assert!(taken <= most, "{compiler} {level}: {line}, of {most}");
+                let more = if call == "write_block" { 600 } else { 160 };
+                let most = stated(call) + more;
+                assert!(taken <= most, "{name} {level}: {line}, of {most}");
             }
         }
     }
@@ -199,12 +190,9 @@ fn readme() {
     let (program, command) = program.split_once("\n}\n").unwrap();
     assert!(command.trim().starts_with("cc "), "{command}");
     fs::write(folder.join("prog.c"), format!("{program}\n}}\n")).unwrap();
-    for compiler in c() {
-        let mut compile = Command::new(compiler);
-        compile.arg("-std=c11").args(FLAGS).arg(include());
-        compile.arg("prog.c").arg(archive()).args(["-o", "prog"]);
-        assert_eq!(printed(compile.current_dir(&folder)), "");
-        let told = printed(&mut Command::new(folder.join("prog")));
-        assert_eq!(told, "thread 5 runs for 20000\n");
-    }
+    let mut compile = compiler("cc", "c11");
+    compile.arg("prog.c").arg(archive()).args(["-o", "prog"]);
+    assert_eq!(printed(compile.current_dir(&folder)), "");
+    let told = printed(&mut Command::new(folder.join("prog")));
+    assert_eq!(told, "thread 5 runs for 20000\n");
 }

@@ -1,4 +1,5 @@
-//! `dist.sh` where something is missing: it says what, and an earlier folder is as it was.
+//! `dist.sh` in small repositories: what it says where something is missing, and an earlier folder is then as it was; what it writes of the
+//! crate's manifest and of the gate.
 
 mod common;
 
@@ -7,79 +8,58 @@ use std::fs;
 use std::path::{Path, PathBuf};
 use std::process::Command;
 
-/// A repository with what the script takes, but for the archive.
+/// A repository with what the script takes.
 struct Repository {
     above: PathBuf,
     root: PathBuf,
     target: PathBuf,
-    archive: PathBuf,
 }
 
-const FOLDERS: [&str; 9] = [
-    "target/staticlib",
-    "target/bin",
-    "target/cargo/release",
-    "docs",
-    "examples/host/c",
-    "examples/host/rust/src",
-    "examples/priorities",
-    "include",
-    "rust/mtr/src",
-];
+const FOLDERS: &str = "target/staticlib target/bin target/cargo/release docs include rust/mtr/src
+    examples/host/c examples/host/rust/src examples/priorities";
 
-const FILES: [&str; 9] = [
-    "dist.sh",
-    "include/mtr.h",
-    "rust/mtr/build.rs",
-    "rust/mtr/Cargo.toml",
-    "examples/host/rust/Cargo.toml",
-    "docs/PROOFS.md",
-    "docs/RULE.md",
-    "docs/mtrrun.1",
-    "docs/mtrwhy.1",
-];
+const FILES: &str =
+    "dist.sh include/mtr.h rust/mtr/build.rs rust/mtr/Cargo.toml examples/host/rust/Cargo.toml
+    docs/PROOFS.md docs/RULE.md docs/mtrrun.1 docs/mtrwhy.1";
 
-const PROGRAMS: [&str; 3] = [
-    "target/bin/mtrrun",
-    "target/bin/mtrwhy",
-    "target/cargo/release/journal",
+const ARCHIVE: &str = "target/staticlib/libabi.a";
+
+/// What the script packs of these, and the gate tests: in the order in which it names them.
+const BUILT: [(&str, &str); 4] = [
+    (ARCHIVE, "lib/libmtr.a"),
+    ("target/cargo/release/journal", "bin/journal"),
+    ("target/bin/mtrrun", "bin/mtrrun"),
+    ("target/bin/mtrwhy", "bin/mtrwhy"),
 ];
 
 impl Repository {
     fn new(name: &str) -> Repository {
         let above = folder(name);
         let root = above.join("repository");
-        for part in FOLDERS {
+        for part in FOLDERS.split_whitespace() {
             fs::create_dir_all(root.join(part)).unwrap();
         }
-        for part in FILES {
+        for part in FILES.split_whitespace() {
             fs::copy(boundary::root().join(part), root.join(part)).unwrap();
         }
-        for part in PROGRAMS {
-            fs::write(root.join(part), "").unwrap();
+        for (file, name) in BUILT {
+            fs::write(root.join(file), name).unwrap();
         }
+        fs::copy(common::archive(), root.join(ARCHIVE)).unwrap();
+        let target = above.join("dist");
         Repository {
-            target: above.join("dist"),
-            archive: root.join("target/staticlib/libabi.a"),
             above,
             root,
+            target,
         }
     }
 
-    /// The same with the archive.
-    fn whole(name: &str) -> Repository {
-        let repository = Repository::new(name);
-        fs::copy(common::archive(), &repository.archive).unwrap();
-        repository
-    }
-
-    fn fill(&self) {
+    /// Fills the folder; what the script says on the way, and what it wrote.
+    fn filled(&self, name: &str) -> (String, String) {
         let output = dist(&self.root, &self.target);
         assert!(output.status.success(), "{}", said(&output));
-    }
-
-    fn filled(&self, name: &str) -> String {
-        fs::read_to_string(self.target.join(name)).unwrap()
+        let told = String::from_utf8(output.stderr).unwrap();
+        (told, fs::read_to_string(self.target.join(name)).unwrap())
     }
 
     /// The status is 1, the script says why, and the folder is as it was.
@@ -90,10 +70,12 @@ impl Repository {
         assert_eq!(output.status.code(), Some(1), "{}", said(&output));
         assert!(said(&output).contains(text), "{}", said(&output));
         assert_eq!(held(&self.target), earlier);
-        let mut beside: Vec<_> = fs::read_dir(&self.above)
-            .unwrap()
-            .map(|e| e.unwrap().file_name())
-            .collect();
+        self.nothing_beside();
+    }
+
+    fn nothing_beside(&self) {
+        let entries = fs::read_dir(&self.above).unwrap();
+        let mut beside: Vec<_> = entries.map(|e| e.unwrap().file_name()).collect();
         beside.retain(|name| name != "repository" && name != "dist");
         assert!(beside.is_empty(), "{beside:?}");
     }
@@ -102,8 +84,8 @@ impl Repository {
 #[test]
 fn no_library() {
     let repository = Repository::new("dist-no-library");
-    repository.refuses("libabi.a is missing");
-    fs::write(&repository.archive, "no archive").unwrap();
+    let archive = repository.root.join(ARCHIVE);
+    fs::write(&archive, "no archive").unwrap();
     repository.refuses("nm can't read");
 
     // An object that needs more than the mem functions.
@@ -112,34 +94,33 @@ fn no_library() {
     let mut compile = Command::new("cc");
     compile.args(["-c", "needy.c", "-o", "needy.o"]);
     printed(compile.current_dir(&repository.root));
-    fs::remove_file(&repository.archive).unwrap();
-    let mut archive = Command::new("ar");
-    archive.args(["rc", "target/staticlib/libabi.a", "needy.o"]);
-    printed(archive.current_dir(&repository.root));
+    fs::remove_file(&archive).unwrap();
+    let mut pack = Command::new("ar");
+    pack.args(["rc", ARCHIVE, "needy.o"]);
+    printed(pack.current_dir(&repository.root));
     repository.refuses("needs puts");
-    assert!(!repository.target.exists());
 }
 
+/// Something is missing, before or once the folder is being filled, with an earlier one in place. A second run replaces that whole, and
+/// leaves one alone that the script did not fill.
 #[test]
-fn no_program() {
-    for part in PROGRAMS {
-        let repository = Repository::whole("dist-no-program");
-        fs::remove_file(repository.root.join(part)).unwrap();
-        repository.refuses(&format!("{part} is missing"));
-    }
-}
-
-/// Something is missing once the folder is being filled, with an earlier one in place; and one that the script did not fill.
-#[test]
-fn an_earlier_folder_stays() {
-    let repository = Repository::whole("dist-stays");
-    repository.fill();
-    for part in ["include/mtr.h", "docs/mtrwhy.1"] {
+fn an_earlier_folder() {
+    let repository = Repository::new("dist-earlier");
+    repository.filled("VERSION");
+    let missing = BUILT.map(|(file, _)| (file, format!("{file} is missing")));
+    let unfilled = ["include/mtr.h", "docs/mtrwhy.1"].map(|file| (file, "can't fill".to_string()));
+    for (part, text) in missing.into_iter().chain(unfilled) {
         let path = repository.root.join(part);
+        let held = fs::read(&path).unwrap();
         fs::remove_file(&path).unwrap();
-        repository.refuses("can't fill");
-        fs::copy(boundary::root().join(part), path).unwrap();
+        repository.refuses(&text);
+        fs::write(path, held).unwrap();
     }
+    let before = files(&repository.target);
+    fs::write(repository.target.join("lib/stale.a"), "").unwrap();
+    repository.filled("VERSION");
+    assert_eq!(files(&repository.target), before);
+    repository.nothing_beside();
     fs::remove_file(repository.target.join("VERSION")).unwrap();
     repository.refuses("has no VERSION");
 }
@@ -147,14 +128,13 @@ fn an_earlier_folder_stays() {
 /// In the crate's manifest nothing is left of what its tests need.
 #[test]
 fn the_manifest() {
-    let repository = Repository::whole("dist-manifest");
+    let repository = Repository::new("dist-manifest");
     let package = "[package]\nname = \"mtr\"\nversion = \"1.2.3\"\n\n";
     let tests = "[dev-dependencies]\nmodel = { path = \"../model\" }\n\n[[test]]\nname = \"a\"\n\n";
     let library = "[lib]\ndoctest = false\n";
     let manifest = repository.root.join("rust/mtr/Cargo.toml");
     fs::write(&manifest, [package, tests, library].concat()).unwrap();
-    repository.fill();
-    let filled = repository.filled("rust/Cargo.toml");
+    let (_, filled) = repository.filled("rust/Cargo.toml");
     assert_eq!(filled, [package, library].concat());
     fs::write(&manifest, library).unwrap();
     repository.refuses("has no version");
@@ -184,71 +164,53 @@ impl Repository {
     /// The sums of what is packed, as the gate writes them.
     fn sums(&self) -> String {
         let mut sums = Command::new("sha256sum");
-        sums.arg("target/staticlib/libabi.a").args(PROGRAMS);
+        sums.args(BUILT.map(|(file, _)| file));
         printed(sums.current_dir(&self.root))
     }
 
-    /// The gate's file: it counted, saw this and tested what has these sums.
-    fn gate(&self, saw: &str, sums: &str) {
-        let text = format!("{RUN}\n{saw}\n{sums}");
-        fs::write(self.root.join("target/gate.txt"), text).unwrap();
-    }
-
-    /// PROVED.md says this of the gate; what the script said on the way.
-    fn told(&self, text: &str) -> String {
-        let output = dist(&self.root, &self.target);
-        assert!(output.status.success(), "{}", said(&output));
-        let page = self.filled("PROVED.md");
+    /// Where the gate counted, saw this and tested what has these sums, PROVED.md says this of it; what the script said on the way.
+    fn told(&self, saw: &str, sums: &str, text: &str) -> String {
+        let gate = format!("{RUN}\n{saw}\n{sums}");
+        fs::write(self.root.join("target/gate.txt"), gate).unwrap();
+        let (told, page) = self.filled("PROVED.md");
         assert!(page.contains(&format!("| gate | {text} |\n")), "{page}");
-        String::from_utf8(output.stderr).unwrap()
+        told
     }
 }
 
 /// What the gate counted, if it saw the commit that stands there and no change to its files.
 #[test]
 fn the_gate() {
-    let repository = Repository::whole("dist-gate");
+    let repository = Repository::new("dist-gate");
     let sums = repository.sums();
-    let wrote = |saw: &str| repository.gate(saw, &sums);
-    let told = |text: &str| assert_eq!(repository.told(text), "");
+    let told = |saw: &str, text: &str| assert_eq!(repository.told(saw, &sums, text), "");
 
     // Where git says nothing, it was not run for the tree, whatever stands there.
     fs::write(repository.root.join(".git"), "no repository").unwrap();
-    told(NOT);
-    for saw in ["", "tree: ", "tree: unknown"] {
-        wrote(saw);
-        told(NOT);
-    }
+    let (_, page) = repository.filled("PROVED.md");
+    assert!(page.contains(&format!("| gate | {NOT} |\n")), "{page}");
+    told("tree: unknown", NOT);
     fs::remove_file(repository.root.join(".git")).unwrap();
 
     if !has("git") {
         return;
     }
-    fs::remove_file(repository.root.join("target/gate.txt")).unwrap();
     let commit = repository.commit();
-    told(NOT);
-    wrote(&format!("tree: {commit}"));
-    told(RUN);
     // A tag changes nothing; a change does, and so does a gate that saw one.
     repository.git(&["tag", "-a", "1.0", "-m", "a"]);
-    told(RUN);
+    let (clean, changed) = (format!("tree: {commit}"), format!("tree: {commit}-dirty"));
+    told(&clean, RUN);
+    told(&changed, NOT);
+    told("", NOT);
     let header = repository.root.join("include/mtr.h");
     let held = fs::read(&header).unwrap();
     fs::write(&header, [&held[..], b"\n"].concat()).unwrap();
-    told(NOT);
-    wrote(&format!("tree: {commit}-dirty"));
-    told(NOT);
+    told(&clean, NOT);
+    told(&changed, NOT);
     fs::write(&header, held).unwrap();
-    told(NOT);
-    for saw in ["tree: unknown", ""] {
-        wrote(saw);
-        told(NOT);
-    }
     // The same files in a later commit are not what the gate saw.
-    wrote(&format!("tree: {commit}"));
-    told(RUN);
     repository.git(&["commit", "--quiet", "--allow-empty", "-m", "b"]);
-    told(NOT);
+    told(&clean, NOT);
 }
 
 /// The commit is the one that the gate saw, and what is packed is not all that it tested.
@@ -257,49 +219,35 @@ fn untested_files() {
     if !has("git") {
         return;
     }
-    let repository = Repository::whole("dist-untested");
+    let repository = Repository::new("dist-untested");
     let saw = format!("tree: {}", repository.commit());
     let sums = repository.sums();
     // The script names the files in one line, and so does the page.
-    let not = |files: &str| {
+    let not = |sums: &str, files: &str| {
         let text = format!("was not run for these files: {files}");
-        let line = repository.told(&text);
+        let line = repository.told(&saw, sums, &text);
         let expected = format!("dist.sh: the gate {text}; PROVED.md says so, without its count\n");
         assert_eq!(line, expected);
     };
-    let packed = [
-        ("target/staticlib/libabi.a", "lib/libmtr.a"),
-        ("target/cargo/release/journal", "bin/journal"),
-        ("target/bin/mtrrun", "bin/mtrrun"),
-        ("target/bin/mtrwhy", "bin/mtrwhy"),
-    ];
-    let all = packed.map(|(_, name)| name).join(" ");
-
-    repository.gate(&saw, &sums);
-    assert_eq!(repository.told(RUN), "");
-    for (file, name) in packed {
-        // A file that is not the one that was tested. An archive stays one with a byte more.
-        let file = repository.root.join(file);
-        let held = fs::read(&file).unwrap();
-        fs::write(&file, [&held[..], b"\n"].concat()).unwrap();
-        not(name);
-        fs::write(&file, held).unwrap();
-        assert_eq!(repository.told(RUN), "");
-    }
-    for (file, name) in packed {
+    let all = BUILT.map(|(_, name)| name).join(" ");
+    assert_eq!(repository.told(&saw, &sums, RUN), "");
+    // A gate that took no sums, as those before this one.
+    not("", &all);
+    for (file, name) in BUILT {
         // A file whose sum is not there.
-        let (own, others): (Vec<&str>, Vec<&str>) = sums.lines().partition(|l| l.ends_with(file));
-        assert_eq!(own.len(), 1);
-        repository.gate(&saw, &others.join("\n"));
-        not(name);
+        let others: Vec<&str> = sums.lines().filter(|l| !l.ends_with(file)).collect();
+        not(&others.join("\n"), name);
     }
     // The sum of one file stands for no other.
     let (archive, _) = sums.split_once(' ').unwrap();
-    repository.gate(&saw, &format!("{archive}  target/bin/mtrrun\n"));
-    not(&all);
-    // A gate that took no sums, as those before this one.
-    repository.gate(&saw, "");
-    not(&all);
+    not(&format!("{archive}  target/bin/mtrrun\n"), &all);
+    // Files that are not those that were tested. An archive stays one with a byte more.
+    for (file, _) in BUILT {
+        let file = repository.root.join(file);
+        let held = fs::read(&file).unwrap();
+        fs::write(&file, [&held[..], b"\n"].concat()).unwrap();
+    }
+    not(&sums, &all);
 }
 
 #[test]

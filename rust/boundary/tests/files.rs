@@ -1,15 +1,14 @@
 //! The committed header and declarations: up to date, and the same sizes,
-//! offsets and constants in both.
+//! offsets, constants and version in both.
 
 mod common;
 
-use std::collections::BTreeMap;
+use std::collections::{BTreeMap, BTreeSet};
 use std::fs;
-use std::path::Path;
-use std::process::{Command, Output};
+use std::process::Command;
 
 use boundary::interface::c_name;
-use common::{archive, committed, folder};
+use common::{archive, committed, folder, printed, run, said};
 
 #[test]
 fn up_to_date() {
@@ -31,60 +30,34 @@ fn up_to_date() {
     }
 }
 
-fn compile(compiler: &str, standard: &str, include: &Path, source: &Path) -> Output {
-    let flags = ["-Wall", "-Wextra", "-Werror", "-pedantic", "-fsyntax-only"];
-    Command::new(compiler)
-        .arg(format!("-std={standard}"))
-        .args(flags)
-        .arg("-I")
-        .arg(include)
-        .arg(source)
-        .output()
-        .unwrap_or_else(|e| panic!("{compiler}: {e}"))
-}
-
-/// A field of another size makes the compiler refuse the header.
+/// A field of another size or in another place, or a struct of another alignment, makes the compiler refuse the header.
 #[test]
 fn asserts_hold_the_layout() {
     let folder = folder("refuse");
     let header = committed("include/mtr.h");
-    let source = folder.join("a.c");
-    fs::write(&source, "#include \"mtr.h\"\n").unwrap();
+    fs::write(folder.join("a.c"), "#include \"mtr.h\"\n").unwrap();
     for (from, to) in [
         ("    uint16_t amount;", "    uint8_t amount;"),
-        ("    uint32_t ticks;", "    uint16_t ticks;"),
-        ("    mtr_group groups[16];", "    mtr_group groups[17];"),
-        ("    int64_t lag;", "    int32_t lag;"),
         ("    int32_t allotment;", "    int64_t allotment;"),
-        ("    uint16_t overrun;", "    uint32_t overrun;"),
-        ("    uint64_t first;", "    uint32_t first;"),
-        ("    uint64_t tag;", "    uint32_t tag;"),
-        ("    uint64_t time;", "    uint32_t time;"),
+        ("    mtr_group groups[16];", "    mtr_group groups[17];"),
         (
             "    uint64_t meter;\n    uint64_t time;",
             "    uint64_t time;\n    uint64_t meter;",
         ),
-        ("    uint32_t place;", "    uint64_t place;"),
         (
-            "    mtr_priority_row rows[10];",
-            "    mtr_priority_row rows[11];",
-        ),
-        (
-            "    mtr_priority_row rows[10];\n    uint64_t count;",
-            "    uint64_t count;\n    mtr_priority_row rows[10];",
-        ),
-        (
-            "    uint8_t parent;\n    uint8_t opened;",
-            "    uint8_t opened;\n    uint8_t parent;",
+            "} mtr_priority_row;",
+            "} __attribute__((packed)) mtr_priority_row;",
         ),
     ] {
         let changed = header.replacen(from, to, 1);
         assert_ne!(changed, header, "{from}");
         fs::write(folder.join("mtr.h"), changed).unwrap();
-        let output = compile("cc", "c11", &folder, &source);
-        let said = String::from_utf8_lossy(&output.stderr);
+        let mut compile = Command::new("cc");
+        compile.args(["-std=c11", "-fsyntax-only", "a.c"]);
+        let output = run(compile.current_dir(&folder));
         assert!(!output.status.success(), "{to} is accepted");
-        assert!(said.contains("static assertion failed"), "{to}: {said}");
+        let told = said(&output);
+        assert!(told.contains("static assertion failed"), "{to}: {told}");
     }
 }
 
@@ -99,22 +72,16 @@ fn pair(text: &str) -> [u64; 2] {
 fn asserted_in_c() -> Layout {
     let mut found = Layout::new();
     for line in committed("include/mtr.h").lines() {
-        let Some(line) = line.strip_suffix(");") else {
+        let Some((of, rest)) = line.strip_suffix(");").and_then(|l| l.split_once('(')) else {
             continue;
         };
-        if let Some((name, rest)) = line
-            .strip_prefix("MTR_STRUCT(")
-            .and_then(|l| l.split_once(", "))
-        {
-            found.insert((name.to_string(), String::new()), pair(rest));
-        }
-        if let Some((name, rest)) = line
-            .strip_prefix("MTR_FIELD(")
-            .and_then(|l| l.split_once(", "))
-        {
-            let (field, rest) = rest.split_once(", ").unwrap();
-            found.insert((name.to_string(), field.to_string()), pair(rest));
-        }
+        let parts: Vec<&str> = rest.splitn(3, ", ").collect();
+        let (name, field, rest) = match (of, &parts[..]) {
+            ("MTR_STRUCT", [name, size, align]) => (name, "", format!("{size}, {align}")),
+            ("MTR_FIELD", [name, field, rest]) => (name, *field, rest.to_string()),
+            _ => continue,
+        };
+        found.insert((name.to_string(), field.to_string()), pair(&rest));
     }
     found
 }
@@ -153,24 +120,6 @@ fn both_assert_the_same() {
     assert_eq!(c, asserted_in_rust());
 }
 
-/// No byte of a struct at the boundary is padding: its fields lie one behind the other, from its beginning to its end.
-#[test]
-fn fields_add_up() {
-    let layout = asserted_in_c();
-    let structs = layout.keys().filter(|key| key.1.is_empty());
-    for (name, _) in structs.filter(|key| key.0 != "size_t") {
-        let of = |key: &&(String, String)| key.0 == *name && !key.1.is_empty();
-        let mut fields: Vec<[u64; 2]> = layout.keys().filter(of).map(|key| layout[key]).collect();
-        fields.sort_unstable();
-        let mut end = 0;
-        for [offset, size] in fields {
-            assert_eq!(offset, end, "{name}");
-            end += size;
-        }
-        assert_eq!(end, layout[&(name.clone(), String::new())][0], "{name}");
-    }
-}
-
 /// Every constant has the same value in both.
 #[test]
 fn both_have_the_same_constants() {
@@ -204,38 +153,29 @@ fn both_have_the_same_constants() {
     assert_eq!(c, rust);
 }
 
-/// The archive has every function that the header declares and no other.
+/// The archive has every function that the header declares and no other, needs of libc the mem functions alone, and holds no data.
 #[test]
 fn the_archive_has_the_functions() {
-    let output = Command::new("nm")
-        .arg("-g")
-        .arg(archive())
-        .output()
-        .unwrap();
-    assert!(output.status.success(), "nm {}", archive().display());
-    let text = String::from_utf8(output.stdout).unwrap();
-    let mut present: Vec<&str> = text
-        .lines()
-        .filter_map(|l| Some(l.split_once(" T ")?.1))
-        .collect();
-    let mut needed: Vec<&str> = text
-        .lines()
-        .filter_map(|l| Some(l.split_once(" U ")?.1))
-        .collect();
+    let text = printed(Command::new("nm").arg("-g").arg(archive()));
+    let names = |mark: &str| {
+        let rows = text.lines().filter_map(|l| Some(l.split_once(mark)?.1));
+        rows.collect::<BTreeSet<&str>>()
+    };
     let header = committed("include/mtr.h");
-    let mut declared: Vec<&str> = header
+    let declared: BTreeSet<&str> = header
         .lines()
         .filter(|l| !l.starts_with(['#', ' ', '/', 'M', '}']))
         .filter_map(|l| l.split_once('(')?.0.split_once(' '))
         .map(|pair| pair.1)
         .collect();
-    present.sort_unstable();
-    declared.sort_unstable();
     assert_eq!(declared.len(), 21);
-    assert_eq!(present, declared);
-    needed.sort_unstable();
-    let libc = ["memcmp", "memcpy", "memmove", "memset"];
-    assert!(needed.iter().all(|n| libc.contains(n)), "{needed:?}");
+    assert_eq!(names(" T "), declared);
+    let libc = BTreeSet::from(["memcmp", "memcpy", "memmove", "memset"]);
+    let needed = names(" U ");
+    assert!(needed.is_subset(&libc), "{needed:?}");
+    let sizes = printed(Command::new("size").arg("-B").arg(archive()));
+    let sizes: Vec<&str> = sizes.lines().nth(1).unwrap().split_whitespace().collect();
+    assert_eq!(sizes[1..3], ["0", "0"], "data and bss");
 }
 
 /// What docs/PERFORMANCE.md has of each call's stack is what was measured.
@@ -263,11 +203,7 @@ fn the_document_has_the_stack() {
 #[test]
 fn the_machine_is_as_stated() {
     let mut dump = Command::new("objdump");
-    let output = dump
-        .args(["-d", "--no-show-raw-insn"])
-        .arg(archive())
-        .output();
-    let text = String::from_utf8(output.unwrap().stdout).unwrap();
+    let text = printed(dump.args(["-d", "--no-show-raw-insn"]).arg(archive()));
     let code: Vec<&str> = text
         .lines()
         .filter_map(|line| Some(line.split_once(":\t")?.1.trim()))
@@ -280,4 +216,33 @@ fn the_machine_is_as_stated() {
     }
     let x87 = code.iter().filter(|c| c.starts_with('f')).count();
     assert_eq!(x87, 0);
+}
+
+/// The rest of the first line that begins so.
+fn after<'a>(text: &'a str, start: &str) -> &'a str {
+    let mut lines = text.lines();
+    lines
+        .find_map(|line| line.strip_prefix(start))
+        .unwrap_or_else(|| panic!("no line begins with {start}"))
+}
+
+/// One version: in the header, the Rust crate and the changelog. The library's is compared with the header's in program.c.
+#[test]
+fn one_version() {
+    let manifest = committed("rust/mtr/Cargo.toml");
+    let version = after(&manifest, "version = ").trim_matches('"');
+    let parts: Vec<u32> = version.split('.').map(|n| n.parse().unwrap()).collect();
+    let [major, minor, patch] = parts[..] else {
+        panic!("{version}");
+    };
+    assert!(minor < 100 && patch < 100, "{version}");
+    let number = (10000 * major + 100 * minor + patch).to_string();
+
+    let header = committed("include/mtr.h");
+    let text = after(&header, "#define MTR_VERSION_TEXT ");
+    assert_eq!(text.trim_matches('"'), version);
+    assert_eq!(after(&header, "#define MTR_VERSION "), number);
+    let raw = committed("rust/mtr/src/raw.rs");
+    assert_eq!(after(&raw, "pub const VERSION: u32 = "), number + ";");
+    assert_eq!(after(&committed("CHANGELOG.md"), "## "), version);
 }

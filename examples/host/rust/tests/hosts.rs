@@ -1,12 +1,12 @@
-//! The host in C and the host in Rust: the same journal, byte by byte, and `mtrrun` prints for it what both were answered.
+//! The host in C and the host in Rust: the same journal, byte by byte, and `mtrrun` prints for it what both were answered. What they print
+//! at the end is counted again on the journal.
 
 mod common;
-#[path = "hosts/idle.rs"]
-mod idle;
 
 use common::{c_source, compiled, root, run, scratch, thousandths};
-use mtr::{blocks, Event, PriorityRow, PriorityTable, Reason, Settings};
-use std::collections::BTreeMap;
+use mtr::raw::{self, Record};
+use mtr::{blocks, Dispatch, Entry, Event, Scheduler};
+use std::collections::{BTreeMap, BTreeSet};
 use std::fs;
 use std::path::{Path, PathBuf};
 use std::process::{Command, Stdio};
@@ -15,7 +15,7 @@ use std::sync::OnceLock;
 /// The host in C.
 fn c_host() -> &'static Path {
     static PROGRAM: OnceLock<PathBuf> = OnceLock::new();
-    PROGRAM.get_or_init(|| compiled(&c_source(), "controller-c"))
+    PROGRAM.get_or_init(|| compiled(&c_source(), "controller-c", "-O2"))
 }
 
 fn rust_host() -> &'static Path {
@@ -62,205 +62,177 @@ fn events(journal: &[u8]) -> Vec<Event> {
     all
 }
 
-/// A line's five numbers, or a roster line's number, allotment, lag and share, or a debt line's number, debt and allotment, or a readout
-/// line's reservation, ticks and share, or a best-effort line's number, weight, ticks, share and the weight's share.
-fn numbers(line: &str) -> Vec<i64> {
-    let words = line.split(' ');
-    words.filter_map(|word| word.parse().ok()).collect()
-}
-
 const READOUT: u8 = 0;
-const ARCHIVE: u8 = 5;
-const PRINTER: u8 = 6;
-const PACKER: u8 = 7;
 
-/// The settings that both hosts start with.
-fn settings() -> Settings {
-    Settings {
-        overrun: 50,
-        ..Settings::default()
-    }
-}
+/// m, P and O that both hosts start with.
+const SETTINGS: [i64; 3] = [100, 20_000, 50];
 
-/// What readout is owed in a stretch of a journal in which its reservation f is the same: f × W − 1000 × S, W and S from the stretch's
-/// beginning on.
+/// Admissions and changes of a run while nothing runs, with their answers: a thread and its reservation, in group 0 or the lab's, or its
+/// weight. The lab's have what their priorities have under its own table. Then come mistakes, a method change that comes too early and is
+/// taken back, the lab's programs again within one that fits, and its end.
+const ASKED: &str = "\
+admit 0 500: 0, admit 1 100: 0, lab 2 50: 0, lab 3 100: 0, admit 4 50: 0, admit 5 200: 0, weight 6 1: 0, weight 7 3: 0, \
+admit 0 1: 8, admit 64 1: 7, lab 8 150: 5, change 64 1: 7, change 0 1001: 4, \
+weight 64 1: 7, weight 0 1: 8, weight 8 0: 4, weight 8 17: 4, change 6 1: 7, \
+change 5 50: 0, change 0 700: 5, change 5 200: 0, \
+change 5 50: 0, change 0 700: 0, lab 2 50: 0, lab 3 100: 0, change 0 500: 0, change 5 200: 0";
+
+/// A stretch in which readout is runnable and has the same reservation: the ticks of all and its own.
 #[derive(Debug, Default)]
-struct Owed {
+struct Stretch {
     reservation: i64,
-    last: i64,
-    /// The most over a part of the stretch, from any call to any later one, f times the others' overruns in it not counted.
-    most: i64,
-    /// That amount now, and the least so far.
-    levels: [i64; 2],
-    /// S and W.
-    ticks: [i64; 2],
-    /// Overruns of the others, and of readout.
-    overruns: [i64; 2],
+    all: i64,
+    own: i64,
+    /// Ticks beyond the slices, of the others and of readout.
+    late: [i64; 2],
 }
 
-impl Owed {
-    fn of(reservation: i64) -> Owed {
-        Owed {
-            reservation,
-            ..Owed::default()
-        }
-    }
-
-    fn charge(&mut self, reads: bool, used: i64, slice: i64) {
-        let f = self.reservation;
-        self.ticks[0] += if reads { used } else { 0 };
-        self.ticks[1] += used;
-        self.overruns[reads as usize] += (used - slice).max(0);
-        self.last = f * self.ticks[1] - 1000 * self.ticks[0];
-        let [level, least] = &mut self.levels;
-        *level = self.last - f * self.overruns[0];
-        self.most = self.most.max(*level - *least);
-        *least = (*least).min(*level);
-    }
-
-    /// Thousandths of the stretch's ticks.
+impl Stretch {
     fn share(&self) -> i64 {
-        thousandths(self.ticks[0], self.ticks[1])
+        thousandths(self.own, self.all)
     }
 }
 
-/// The stretches of a journal: one from readout's admission on, and one from each change of its reservation and each wake. It ends where
-/// readout blocks, before that report. With them readout's ticks since its admission, and those of all.
-fn owed(events: &[Event], lines: &[&str]) -> (Vec<Owed>, [i64; 2]) {
-    let (mut running, mut slice) = (None, 0);
-    let mut stretches: Vec<Owed> = Vec::new();
-    let mut blocked = false;
-    let mut ticks = [0; 2];
-    for (event, line) in events.iter().zip(lines) {
-        let line = numbers(line);
-        if line[1] != 0 {
-            continue;
-        }
-        match *event {
-            Event::Admit {
-                thread: READOUT,
-                reservation,
-                ..
-            }
-            | Event::Change {
-                thread: READOUT,
-                reservation,
-            } => stretches.push(Owed::of(reservation.into())),
-            Event::Wake { thread: READOUT } => {
-                blocked = false;
-                let reservation = stretches.last().unwrap().reservation;
-                stretches.push(Owed::of(reservation));
-            }
-            Event::Dispatch => (running, slice) = (Some(line[2]), line[3]),
-            Event::Report { reason, used } => {
-                let reads = running == Some(READOUT as i64);
-                let used = used.into();
-                ticks[0] += if reads { used } else { 0 };
-                ticks[1] += used;
-                if reads && reason != Reason::Tick.number() {
-                    assert_eq!(reason, Reason::Block.number());
-                    blocked = true;
-                }
-                if !blocked {
-                    let stretch = stretches.last_mut().unwrap();
-                    stretch.charge(reads, used, slice);
-                }
-            }
-            _ => {}
-        }
-    }
-    (stretches, ticks)
+/// What the calls of a journal come to, counted while it is replayed.
+#[derive(Default)]
+struct Count {
+    s: Scheduler,
+    slice: i64,
+    /// The kinds that were accepted, and all answers.
+    accepted: BTreeSet<u8>,
+    answers: BTreeSet<u32>,
+    asked: Vec<String>,
+    /// What changes of the running thread were answered.
+    while_running: BTreeSet<u32>,
+    /// Each thread's largest debt and the allotment that it left.
+    debts: BTreeMap<u8, [i64; 2]>,
+    stretches: Vec<Stretch>,
+    /// The weights and ticks of best-effort threads.
+    spare: BTreeMap<u8, [i64; 2]>,
 }
 
-/// A thread, a reservation or a weight, and the answer.
-type Asked = (u8, u16, i64);
+impl Count {
+    fn thread(&self, thread: u8) -> raw::Thread {
+        self.s.as_raw().threads[thread as usize]
+    }
 
-/// The changes of a journal, those where nothing runs and those of the running thread.
-fn changes(events: &[Event], lines: &[&str]) -> [Vec<Asked>; 2] {
-    let mut changes = [Vec::new(), Vec::new()];
-    let mut running = None;
-    for (event, line) in events.iter().zip(lines) {
-        let line = numbers(line);
-        match *event {
-            Event::Change {
-                thread,
-                reservation,
-            } => {
-                assert!(running.is_none_or(|running| running == thread.into()));
-                changes[running.is_some() as usize].push((thread, reservation, line[1]));
+    fn call(&mut self, event: Event) {
+        let running = self.s.running();
+        let left = running.map_or(0, |n| self.thread(n).allotment);
+        let told = self.s.call(event);
+        let answer = told.err().map_or(0, |refusal| refusal.number());
+        let record = Record::from(event);
+        self.answers.insert(answer);
+        let what = match event {
+            Event::Admit { group: 0, .. } => "admit",
+            Event::Admit { .. } => "lab",
+            Event::AdmitBestEffort { .. } => "weight",
+            Event::Change { .. } => "change",
+            _ => "",
+        };
+        if running.is_some() && !what.is_empty() {
+            self.while_running.insert(answer);
+        } else if !what.is_empty() {
+            let (thread, amount) = (record.subject, record.amount);
+            let line = format!("{what} {thread} {amount}: {answer}");
+            self.asked.push(line);
+        }
+        if answer != 0 {
+            return;
+        }
+        self.accepted.insert(record.kind);
+        match event {
+            Event::AdmitBestEffort { thread, weight } => {
+                self.spare.insert(thread, [weight.into(), 0]);
             }
-            _ if line[1] != 0 => {}
-            Event::Dispatch if line[2] != 64 => running = Some(line[2]),
-            Event::Report { .. } => running = None,
+            Event::Admit { thread, .. } | Event::Change { thread, .. } | Event::Wake { thread }
+                if thread == READOUT =>
+            {
+                self.stretches.push(Stretch {
+                    reservation: self.thread(READOUT).reservation.into(),
+                    ..Stretch::default()
+                });
+            }
+            Event::Report { used, .. } => self.report(running.unwrap(), left.into(), used.into()),
             _ => {}
         }
-    }
-    changes
-}
-
-/// The largest debt of each thread in a journal, and the allotment that it left, computed from the slices and the ticks used: every
-/// slice is that of an allotment from which the debt before it is taken. A best-effort thread has no debt, and its slice is P.
-fn debts(events: &[Event], lines: &[&str]) -> Vec<Vec<i64>> {
-    let settings = settings();
-    let (m, p) = (settings.thousandth as i64, settings.interval as i64);
-    let mut quantum = [0; 64];
-    let mut allotment = [0; 64];
-    let mut best_effort = [false; 64];
-    let mut most = [(0, 0); 64];
-    let (mut n, mut slice) = (0, 0);
-    for (event, line) in events.iter().zip(lines) {
-        let line = numbers(line);
-        match *event {
-            _ if line[1] != 0 => {}
-            Event::Admit {
-                thread,
-                reservation,
-                ..
-            } => {
-                quantum[thread as usize] = reservation as i64 * m;
-                allotment[thread as usize] = reservation as i64 * m;
-            }
-            Event::AdmitBestEffort { thread, .. } => best_effort[thread as usize] = true,
-            // Cut, and never raised.
-            Event::Change {
-                thread,
-                reservation,
-            } => {
-                let n = thread as usize;
-                quantum[n] = reservation as i64 * m;
-                allotment[n] = allotment[n].min(quantum[n]);
-            }
-            Event::Dispatch if line[2] != 64 => {
-                (n, slice) = (line[2] as usize, line[3]);
-                let wanted = if best_effort[n] {
-                    p
-                } else {
-                    allotment[n].min(p)
-                };
-                assert_eq!(slice, wanted, "{line:?}");
-            }
-            Event::Report { reason, used } => {
-                let used = used as i64;
-                assert!(used <= slice + settings.overrun as i64);
-                if best_effort[n] {
-                    continue;
-                }
-                let left = allotment[n] - used;
-                allotment[n] = match left {
-                    ..=0 => left + quantum[n],
-                    _ if reason == Reason::Yield.number() => quantum[n],
-                    _ => left,
-                };
-                if -left > most[n].0 {
-                    most[n] = (-left, allotment[n]);
-                }
-            }
-            _ => {}
+        if let Ok(Some(Dispatch::Run { slice, .. })) = told {
+            self.slice = slice.into();
         }
     }
-    let rows = most.iter().enumerate().filter(|row| row.1 .0 > 0);
-    rows.map(|(n, &(owed, left))| vec![n as i64, owed, left])
-        .collect()
+
+    /// The thread used these ticks, and had so many left of its allotment.
+    fn report(&mut self, thread: u8, left: i64, used: i64) {
+        let late = (used - self.slice).max(0);
+        let [m, p, o] = SETTINGS;
+        assert!(late <= o);
+        match self.spare.get_mut(&thread) {
+            Some([_, ticks]) => *ticks += used,
+            None => {
+                let most = self.debts.get(&thread).map_or(0, |debt| debt[0]);
+                if used - left > most {
+                    let debt = [used - left, self.thread(thread).allotment.into()];
+                    self.debts.insert(thread, debt);
+                }
+            }
+        }
+        // The report with which readout blocks is in no stretch.
+        if self.thread(READOUT).status == raw::STATUS_BLOCKED {
+            return;
+        }
+        let lag = self.s.lag(READOUT).unwrap();
+        let stretch = self.stretches.last_mut().unwrap();
+        stretch.all += used;
+        let reads = thread == READOUT;
+        stretch.own += if reads { used } else { 0 };
+        stretch.late[reads as usize] += late;
+        // Readout's limit, and what the others' overruns take beyond it.
+        let f = stretch.reservation;
+        let bound = 2 * f * (1000 - f) * m + f * p;
+        assert!(lag <= bound + f * stretch.late[0], "{lag}: {stretch:?}");
+    }
+
+    /// The tables that a host prints at the end.
+    fn tables(&self) -> String {
+        let mut text = String::new();
+        let mut table = [Entry::default(); 64];
+        for e in self.s.roster(&mut table).unwrap() {
+            let state = format!("{:?}", e.state).to_lowercase();
+            let (allotment, lag, share) = (e.allotment, e.lag, e.share);
+            text += &format!("roster {} {state} {allotment} {lag} {share}\n", e.thread);
+        }
+        for (thread, [owed, left]) in &self.debts {
+            text += &format!("debt {thread} {owed} {left}\n");
+        }
+        for s in &self.stretches {
+            text += &format!("readout {} {} {}\n", s.reservation, s.all, s.share());
+        }
+        let sum = |of: usize| self.spare.values().map(|spare| spare[of]).sum::<i64>();
+        for (thread, [weight, ticks]) in &self.spare {
+            let (share, due) = (thousandths(*ticks, sum(1)), thousandths(*weight, sum(0)));
+            assert!(share.abs_diff(due) <= 50, "{share} for {due}");
+            text += &format!("best-effort {thread} {weight} {ticks} {share} {due}\n");
+        }
+        text
+    }
+
+    /// Every kind of call is accepted, and every refusal that a host can meet occurs. The timer is late for readout and for others, and
+    /// there are debts. Readout has what it reserves.
+    fn holds(&self) {
+        assert!(self.accepted.iter().copied().eq(1..=10));
+        assert!(self.answers.iter().copied().eq(0..=14));
+        // Of a running best-effort thread, and of a reserved one.
+        assert!(self.while_running.iter().eq(&[7, 9]));
+        assert_eq!(self.asked.join(", "), ASKED);
+        assert!(self.debts.len() > 1);
+        let stretches = &self.stretches;
+        let reserved: Vec<i64> = stretches.iter().map(|s| s.reservation).collect();
+        assert_eq!(reserved, [500, 700, 500, 500]);
+        for stretch in stretches {
+            assert!(stretch.late.iter().all(|&ticks| ticks > 0));
+            assert!(stretch.share() >= stretch.reservation, "{stretch:?}");
+        }
+    }
 }
 
 fn compare(seed: &str, milliseconds: &str) {
@@ -271,199 +243,34 @@ fn compare(seed: &str, milliseconds: &str) {
     assert!(c_journal == journal, "{name}");
     assert_eq!(c_printed, printed, "{name}");
 
-    let at = printed.find("roster").unwrap();
-    let (answers, tables) = printed.split_at(at);
-    let (roster, tables) = tables.split_at(tables.find("debt").unwrap());
-    let (in_debt, tables) = tables.split_at(tables.find("readout").unwrap());
-    let (stretches, spare) = tables.split_at(tables.find("best-effort").unwrap());
+    let (answers, tables) = printed.split_at(printed.find("roster").unwrap());
     assert_eq!(replayed(&rust_name), answers, "{name}");
-
-    let (events, lines) = (events(&journal), answers.lines().collect::<Vec<_>>());
-    assert_eq!(events.len(), lines.len());
-    for (i, line) in lines.iter().enumerate() {
-        let line = numbers(line);
-        assert!(line.len() == 5 && line[0] == i as i64);
-    }
-    every_call_and_refusal(&events, &lines);
-    admissions(&events, &lines);
-    lab(&events, &lines);
-
-    // The debts are kept.
-    let in_debt: Vec<Vec<i64>> = in_debt.lines().map(numbers).collect();
-    assert!(in_debt.len() > 1, "{in_debt:?}");
-    assert_eq!(in_debt, debts(&events, &lines));
-
-    let rows = |table: &str| table.lines().map(numbers).collect::<Vec<_>>();
-    let (owed, ticks) = owed(&events, &lines);
-    let roster = rows(roster);
-    assert_eq!(roster.len(), 7);
-    readout(&owed, ticks, &roster, &rows(stretches));
-    best_effort(
-        &idle::spare(&events, &lines),
-        ticks[1],
-        &roster,
-        &rows(spare),
-    );
-}
-
-/// Every kind of call is accepted at least once, and every refusal that a host can meet occurs.
-fn every_call_and_refusal(events: &[Event], lines: &[&str]) {
-    let mut accepted = [0; 11];
-    let mut refusals = [0; 21];
-    for (event, line) in events.iter().zip(lines) {
-        let answer = numbers(line)[1] as usize;
-        refusals[answer] += 1;
-        accepted[mtr::raw::Record::from(*event).kind as usize] += (answer == 0) as u32;
-    }
-    assert!(accepted[1..].iter().all(|&n| n > 0), "{accepted:?}");
-    let seen: Vec<usize> = (0..21).filter(|&a| refusals[a] > 0).collect();
-    assert_eq!(seen, (0..=14).collect::<Vec<_>>());
-
-    // Changes: three mistakes, a method change that comes too early and is taken back, one that fits, and its end.
-    let [others, running] = changes(events, lines);
-    // Of a running thread, reserved or best-effort.
-    for (thread, _, answer) in &running {
-        let best_effort = [PRINTER, PACKER].contains(thread);
-        assert_eq!(*answer, if best_effort { 7 } else { 9 });
-    }
-    for answer in [7, 9] {
-        assert!(running.iter().any(|change| change.2 == answer));
-    }
-    let wanted = [
-        (64, 1, 7),
-        (READOUT, 1001, 4),
-        (PRINTER, 1, 7),
-        (ARCHIVE, 50, 0),
-        (READOUT, 700, 5),
-        (ARCHIVE, 200, 0),
-        (ARCHIVE, 50, 0),
-        (READOUT, 700, 0),
-        (READOUT, 500, 0),
-        (ARCHIVE, 200, 0),
-    ];
-    assert_eq!(others, wanted);
-}
-
-/// The best-effort threads are admitted after the lab's, with their weights. Then come four mistakes.
-fn admissions(events: &[Event], lines: &[&str]) {
-    let rows = events.iter().zip(lines);
-    let admitted: Vec<Asked> = rows
-        .filter_map(|(event, line)| match *event {
-            Event::AdmitBestEffort { thread, weight } => Some((thread, weight, numbers(line)[1])),
-            _ => None,
-        })
-        .collect();
-    let wanted = [
-        (PRINTER, 1, 0),
-        (PACKER, 3, 0),
-        (64, 1, 7),
-        (READOUT, 1, 8),
-        (8, 0, 4),
-        (8, 17, 4),
-    ];
-    assert_eq!(admitted, wanted);
-}
-
-/// The lab's threads are admitted at power-up and half-way, each with what its priority has under the lab's table.
-fn lab(events: &[Event], lines: &[&str]) {
-    let row = |first, last, reservation| PriorityRow {
-        first,
-        last,
-        reservation,
-    };
-    let table = PriorityTable::new(&[row(1, 5, 50), row(6, 10, 100)]).unwrap();
-    let admitted: Vec<(u8, u16)> = (events.iter().zip(lines))
-        .filter(|(_, line)| numbers(line)[1] == 0)
-        .filter_map(|(event, _)| match *event {
-            Event::Admit {
-                thread,
-                group: 1,
-                reservation,
-            } => Some((thread, reservation)),
-            _ => None,
-        })
-        .collect();
-    let [viewer, exporter] = [(2, 3), (3, 8)]
-        .map(|(thread, priority)| (thread, table.reservation_of(priority).unwrap()));
-    assert_eq!(admitted, [viewer, exporter, viewer, exporter]);
-}
-
-/// Readout's bound over every part of each stretch, its shares, and its lag and share in the roster.
-fn readout(owed: &[Owed], ticks: [i64; 2], roster: &[Vec<i64>], stretches: &[Vec<i64>]) {
-    let settings = settings();
-    let (m, p) = (settings.thousandth as i64, settings.interval as i64);
-    for stretch in owed {
-        let f = stretch.reservation;
-        let bound = 2 * f * (1000 - f) * m + f * p;
-        assert!(0 < stretch.most && stretch.most <= bound, "{stretch:?}");
-        // The timer is late for readout and for others.
-        let late = stretch.overruns.iter().all(|&ticks| ticks > 0);
-        assert!(late, "{stretch:?}");
-    }
-    let shown: Vec<Vec<i64>> = owed
-        .iter()
-        .map(|stretch| vec![stretch.reservation, stretch.ticks[1], stretch.share()])
-        .collect();
-    assert_eq!(shown, stretches);
-    let [before, raised, after, next] = owed else {
-        panic!("{owed:?}");
-    };
-    let reserved = [before, raised, after, next].map(|stretch| stretch.reservation);
-    assert_eq!(reserved, [500, 700, 500, 500]);
-    for other in [before, after, next] {
-        assert!(raised.share() >= other.share() + 100, "{shown:?}");
-        assert!(other.share() >= 500, "{shown:?}");
-    }
-    // The lag is that since the wake for the next sample, the share that since the admission.
-    let row = roster.iter().find(|row| row[0] == READOUT as i64).unwrap();
-    assert_eq!(row[2..], [next.last, thousandths(ticks[0], ticks[1])]);
-}
-
-/// The best-effort threads' ticks and shares, which are near those of their weights, and their rows in the roster.
-fn best_effort(spare: &[idle::Spare], all: i64, roster: &[Vec<i64>], shown: &[Vec<i64>]) {
-    let sum = |of: fn(&idle::Spare) -> i64| spare.iter().map(of).sum::<i64>();
-    let (ticks, weights) = (sum(|spare| spare.ticks), sum(|spare| spare.weight));
-    let rows: Vec<Vec<i64>> = spare
-        .iter()
-        .map(|of| {
-            let share = thousandths(of.ticks, ticks);
-            let due = thousandths(of.weight, weights);
-            assert!(share.abs_diff(due) <= 50, "{share} for {due}");
-            vec![of.thread, of.weight, of.ticks, share, due]
-        })
-        .collect();
-    assert_eq!(rows, shown);
-    let due: Vec<i64> = rows.iter().map(|row| row[4]).collect();
-    assert_eq!(due, [250, 750]);
-    // No allotment and no lag.
-    for of in spare {
-        let row = roster.iter().find(|row| row[0] == of.thread).unwrap();
-        assert_eq!(row[1..], [0, 0, thousandths(of.ticks, all)]);
-    }
+    let events = events(&journal);
+    assert_eq!(events.len(), answers.lines().count());
+    let mut count = Count::default();
+    events.iter().for_each(|event| count.call(*event));
+    count.holds();
+    assert_eq!(count.tables(), tables, "{name}");
 }
 
 #[test]
 fn the_same_journal_and_the_same_answers() {
-    for seed in ["1", "2", "3", "77", "18446744073709551615"] {
+    for seed in ["1", "2", "18446744073709551615"] {
         compare(seed, "1000");
     }
-}
-
-#[test]
-fn a_minute() {
-    compare("4", "60000");
+    compare("4", "10000");
 }
 
 #[test]
 fn bad_arguments() {
     let taken = scratch("bad.blocks");
+    let _ = fs::remove_file(&taken);
     let taken = taken.to_str().unwrap();
     let none = scratch("none/journal");
     let none = none.to_str().unwrap();
     for host in [c_host(), rust_host()] {
         for words in [
-            &[][..],
-            &["1"],
+            &["1"][..],
             &["x", taken],
             &["-1", taken],
             &["18446744073709551616", taken],
@@ -594,13 +401,13 @@ fn readme(told: &str) {
     let readme = fs::read_to_string(root().join("README.md")).unwrap();
     let sections = sections(&readme);
     let shares = told.lines().filter(|line| line.starts_with("readout "));
-    let shares: Vec<Vec<i64>> = shares.map(numbers).collect();
+    let shares: Vec<Vec<&str>> = shares.map(|line| line.split(' ').collect()).collect();
     let table = sections["Raising readout during a run"];
     for (when, line) in ["before", "during the method change", "after it"]
         .iter()
         .zip(&shares)
     {
-        let row = format!("| {when}, {} | {} |", line[0], line[2]);
+        let row = format!("| {when}, {} | {} |", line[1], line[3]);
         assert!(table.lines().any(|line| line == row), "{row}");
     }
 

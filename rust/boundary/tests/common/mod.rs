@@ -42,31 +42,15 @@ pub fn has(program: &str) -> bool {
     Command::new(program).arg("--version").output().is_ok()
 }
 
-/// The C compilers: cc, and clang where there is one.
-pub fn c() -> Vec<&'static str> {
-    ["cc", "clang"]
-        .into_iter()
-        .filter(|c| *c == "cc" || has(c))
-        .collect()
+/// The compiler with its flags: the header's folder, and all warnings under which it gives none.
+pub fn compiler(name: &str, standard: &str) -> Command {
+    let mut compiler = Command::new(name);
+    compiler.arg(format!("-std={standard}"));
+    compiler.args(["-Wall", "-Wextra", "-Werror", "-pedantic"]);
+    compiler.args(["-Wconversion", "-Wsign-conversion", "-I"]);
+    compiler.arg(boundary::root().join("include"));
+    compiler
 }
-
-/// The C++ compilers: c++, and clang++ where there is one.
-pub fn cpp() -> Vec<&'static str> {
-    ["c++", "clang++"]
-        .into_iter()
-        .filter(|c| *c == "c++" || has(c))
-        .collect()
-}
-
-/// The flags under which the header gives no warning.
-pub const FLAGS: [&str; 6] = [
-    "-Wall",
-    "-Wextra",
-    "-Werror",
-    "-pedantic",
-    "-Wconversion",
-    "-Wsign-conversion",
-];
 
 /// The static library.
 pub fn archive() -> PathBuf {

@@ -11,19 +11,12 @@ pub fn scratch(name: &str) -> PathBuf {
     Path::new(env!("CARGO_TARGET_TMPDIR")).join(name)
 }
 
-/// Compiles as the first comment of the host in C says, with every warning an error.
-pub fn compiled(source: &Path, name: &str) -> PathBuf {
+/// Compiles as the first comment of the host in C says, with every warning an error, at this level of optimisation.
+pub fn compiled(source: &Path, name: &str, level: &str) -> PathBuf {
     let program = scratch(name);
     let done = Command::new("cc")
-        .args([
-            "-std=c11",
-            "-Wall",
-            "-Wextra",
-            "-Werror",
-            "-pedantic",
-            "-O2",
-        ])
-        .arg("-I")
+        .args(["-std=c11", level, "-Wall", "-Wextra", "-Werror"])
+        .args(["-pedantic", "-I"])
         .arg(root().join("include"))
         .arg(source)
         .arg(root().join("target/staticlib/libabi.a"))
