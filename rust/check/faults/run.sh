@@ -27,7 +27,7 @@ order() { # PLACE
 }
 
 # What a call takes of the stack is more where a function stands over the library's own: tests of check and boundary that see it.
-deeper='within_its_limit as_stated stack'
+deeper='stack::within_its_limit stack::as_stated stack'
 
 # ---- what is said
 
