@@ -222,6 +222,7 @@ fn figures_tell_of_changes() {
     for (thread, column, told) in [
         ("1", "reserved", "50"),
         ("1", "longest_block", "4000"),
+        ("1", "longest_block_record", "9"),
         ("1", "wakes", "1"),
         ("2", "refused", "1"),
     ] {

@@ -88,72 +88,38 @@ fn damaged_blocks_are_told_of_and_kept() {
     assert!(text.errors.contains("'journal encode' makes blocks"));
 }
 
+/// Arguments, and what is wrong with them.
+const WRONG: &str = "\
+=> a command is missing
+paint => 'paint' is no command
+decode -x => '-x' is no option of this command
+decode a b => 'b': one FILE only
+draw -o => -o needs a value
+encode --pack=yes => --pack takes no value
+draw --name readout => --name: 'readout' is not N=NAME, N from 0 to 63
+draw --name 64=a => --name: '64=a' is not N=NAME, N from 0 to 63
+draw --from 12a => --from: '12a' is neither a record's number nor a time as 120ms, 1.5s or 2min
+stats --to 1.5 => --to: '1.5' is neither a record's number nor a time as 120ms, 1.5s or 2min
+draw --thread 64 => --thread: '64' is not a number from 0 to 63
+draw --width 359 => --width: the least is 360
+draw --width 4001 => --width: '4001' is not a number from 0 to 4000
+decode --first-block 4294967296 => --first-block: '4294967296' is not a number from 0 to 4294967295
+run --why -1 => --why: '-1' is not a number from 0 to 18446744073709551615
+run --why= => --why: '' is not a number from 0 to 18446744073709551615
+run --name 5=readout => --names and --name go with --why
+run --names x => --names and --name go with --why
+stats --refusals => --refusals goes with --csv; the text has them anyway
+stats --best-effort => --best-effort goes with --csv; the text has them anyway
+stats --csv --refusals --best-effort => --refusals or --best-effort, not both
+";
+
 #[test]
 fn the_wrong_command_line() {
-    for (arguments, told) in [
-        (&[][..], "a command is missing"),
-        (&["paint"], "'paint' is no command"),
-        (&["decode", "-x"], "'-x' is no option of this command"),
-        (&["decode", "a", "b"], "'b': one FILE only"),
-        (&["draw", "-o"], "-o needs a value"),
-        (&["encode", "--pack=yes"], "--pack takes no value"),
-        (
-            &["draw", "--name", "readout"],
-            "--name: 'readout' is not N=NAME, N from 0 to 63",
-        ),
-        (
-            &["draw", "--name", "64=a"],
-            "--name: '64=a' is not N=NAME, N from 0 to 63",
-        ),
-        (
-            &["draw", "--from", "12 apples"],
-            "--from: '12 apples' is neither a record's number nor a time as 120ms, 1.5s or 2min",
-        ),
-        (
-            &["stats", "--to", "1.5"],
-            "--to: '1.5' is neither a record's number nor a time as 120ms, 1.5s or 2min",
-        ),
-        (
-            &["draw", "--thread", "64"],
-            "--thread: '64' is not a number from 0 to 63",
-        ),
-        (&["draw", "--width", "359"], "--width: the least is 360"),
-        (
-            &["draw", "--width", "4001"],
-            "--width: '4001' is not a number from 0 to 4000",
-        ),
-        (
-            &["decode", "--first-block", "4294967296"],
-            "--first-block: '4294967296' is not a number from 0 to 4294967295",
-        ),
-        (
-            &["run", "--why", "-1"],
-            "--why: '-1' is not a number from 0 to 18446744073709551615",
-        ),
-        (
-            &["run", "--why="],
-            "--why: '' is not a number from 0 to 18446744073709551615",
-        ),
-        (
-            &["run", "--name", "5=readout"],
-            "--names and --name go with --why",
-        ),
-        (&["run", "--names", "x"], "--names and --name go with --why"),
-        (
-            &["stats", "--refusals"],
-            "--refusals goes with --csv; the text has them anyway",
-        ),
-        (
-            &["stats", "--best-effort"],
-            "--best-effort goes with --csv; the text has them anyway",
-        ),
-        (
-            &["stats", "--csv", "--refusals", "--best-effort"],
-            "--refusals or --best-effort, not both",
-        ),
-    ] {
+    for row in WRONG.lines() {
+        let (arguments, told) = row.split_once("=> ").unwrap();
+        let arguments: Vec<&str> = arguments.split_whitespace().collect();
         let told = format!("journal: {told}\nTry 'journal --help'.\n");
-        assert_eq!(run(arguments, b"").bad(2), told, "{arguments:?}");
+        assert_eq!(run(&arguments, b"").bad(2), told, "{arguments:?}");
     }
 }
 

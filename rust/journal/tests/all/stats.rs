@@ -2,6 +2,7 @@
 
 use journal::engine::{Engine, Proved};
 use journal::names::Names;
+use journal::track::thousandths;
 
 use crate::common::*;
 
@@ -81,42 +82,26 @@ fn figures_of_runs_beyond_their_slices() {
     assert!(text.contains("m 10, P 1000, O 9, 1 start") && !text.contains("overrun"));
 }
 
-/// To the nearest thousandth, half to even: at the end, of a life that is over,
-/// and within a part, whose figures the library does not have.
+/// To the nearest thousandth, half to even.
 #[test]
 fn shares_are_rounded() {
-    // Of 2000 ticks thread 1 has some, and thread 2 the others.
-    let sparse = |ticks: u64, last: &str| {
-        encode(&format!(
-            "admit 1 group 0 reservation 500\nadmit 2 group 0 reservation 100\ndispatch\n\
-             report block {ticks}\ndispatch\nreport tick {}\n{last}",
-            2000 - ticks
-        ))
-    };
-    let shares = |told: &Told| ["1", "2"].map(|n| value(&told.csv, n, "share").to_string());
-    for (ticks, wanted) in [
-        (0, ["0", "1000"]),
-        (1, ["0", "1000"]),
-        (3, ["2", "998"]),
-        (5, ["2", "998"]),
-        (7, ["4", "996"]),
+    for (ticks, time, share) in [
+        (1, 2000, 0),
+        (3, 2000, 2),
+        (5, 2000, 2),
+        (1999, 2000, 1000),
+        (3, 16, 188),
+        (1, 16, 62),
+        (0, 0, 0),
     ] {
-        for last in [
-            "",
-            "remove 1\nremove 2\n",
-            "start thousandth 1 interval 1\n",
-        ] {
-            assert_eq!(
-                shares(&told(&sparse(ticks, last))),
-                wanted,
-                "{ticks} {last}"
-            );
-        }
+        assert_eq!(thousandths(ticks, time), share, "{ticks} of {time}");
     }
-    for (ticks, wanted) in [(1, ["62", "938"]), (3, ["188", "812"])] {
-        let part = view("", "16us", &[]);
-        let told = figures(&sparse(ticks, ""), &part, &Names::default());
-        assert_eq!(shares(&told), wanted, "{ticks}");
+    // In a part, of a life that is over, and at the end.
+    let text = "admit 1 group 0 reservation 500\nadmit 2 group 0 reservation 100\n\
+                dispatch\nreport exit 3\ndispatch\nreport tick 1997\n";
+    for (to, shares) in [("16us", ["1000", "812"]), ("", ["1000", "998"])] {
+        let told = figures(&encode(text), &view("", to, &[]), &Names::default());
+        assert_eq!(["1", "2"].map(|n| value(&told.csv, n, "share")), shares);
     }
 }
 

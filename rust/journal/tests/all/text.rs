@@ -122,107 +122,49 @@ fn records_are_packed_unless_a_line_begins_a_block() {
     );
 }
 
+/// A wrong line, `/` for the end of a first one, and how its message begins.
+const WRONG: &str = "\
+dispach => 'dispach' begins no line: start, open, close, admit, remove, wake, change, dispatch,
+Dispatch => 'Dispatch' begins no line
+dispatch 5 => dispatch: '5' after the end of the line
+wake => wake: the line ends before the number of the thread
+wake -5 => wake: the thread: '-5' is not a decimal number
+wake 256 => wake: the thread: '256' is above 255
+wake 99999999999999999999999 => wake: the thread: '99999999999999999999999' is above 255
+close x => close: the group: 'x' is not a decimal number
+admit 5 => admit: the line ends where 'group' or 'weight' is expected
+admit 5 grp 0 => admit: 'group' or 'weight' expected, 'grp' found
+admit 5 weight => admit: the line ends before the number of weight
+admit 5 weight 65536 => admit: weight: '65536' is above 65535
+admit 5 weight 3 group 0 => admit: 'group' after the end of the line
+admit 5 group 0 weight 3 => admit: 'reservation' expected, 'weight' found
+change 5 => change: the line ends where 'reservation' is expected
+change 5 reservation -1 => change: reservation: '-1' is not a decimal number
+report => report: the line ends before the reason
+report 0 5 => report: '0' is no reason: tick, block, yield, exit, or reason
+report tick => report: the line ends before the number of the ticks
+report tick 4294967296 => report: the ticks: '4294967296' is above 4294967295
+report reason 256 1 => report: the reason: '256' is above 255
+report tick 5 6 => report: '6' after the end of the line
+start thousandth 1 interval 2 overun 5 => start: 'overrun' or the end of the line expected, 'overun' found
+start thousandth 1 interval 2 overrun => start: the line ends before the number of overrun
+block 7 => block 7 stands in the place of block 1
+block x => the block: 'x' is not a decimal number
+block 1 2 => '2' after the end of the line
+hex 00 => 'hex' belongs under a line 'damaged'
+damaged 1 => the line ends before the number of the refusal
+damaged 1 20 => the refusal: '20' is above 19
+damaged 1 18 => damaged block 1 has 0 bytes; 1 to 512 are expected
+damaged 1 18 / hex 00 => block 1 is refused with 17 (not 512 bytes), not 18
+a\u{7f}b => this is not text (journal decode makes text of blocks)
+";
+
 #[test]
 fn problems_name_the_line_and_what_is_wrong_with_it() {
-    for (text, message) in [
-        (
-            "dispach",
-            "'dispach' begins no line: start, open, close, admit, remove, wake, change, dispatch, ",
-        ),
-        ("Dispatch", "'Dispatch' begins no line"),
-        ("dispatch 5", "dispatch: '5' after the end of the line"),
-        (
-            "wake",
-            "wake: the line ends before the number of the thread",
-        ),
-        ("wake -5", "wake: the thread: '-5' is not a decimal number"),
-        ("wake 256", "wake: the thread: '256' is above 255"),
-        (
-            "wake 99999999999999999999999",
-            "wake: the thread: '99999999999999999999999' is above 255",
-        ),
-        ("close x", "close: the group: 'x' is not a decimal number"),
-        (
-            "admit 5",
-            "admit: the line ends where 'group' or 'weight' is expected",
-        ),
-        (
-            "admit 5 grp 0",
-            "admit: 'group' or 'weight' expected, 'grp' found",
-        ),
-        (
-            "admit 5 weight",
-            "admit: the line ends before the number of weight",
-        ),
-        (
-            "admit 5 weight 65536",
-            "admit: weight: '65536' is above 65535",
-        ),
-        (
-            "admit 5 weight 3 group 0",
-            "admit: 'group' after the end of the line",
-        ),
-        (
-            "admit 5 group 0 weight 3",
-            "admit: 'reservation' expected, 'weight' found",
-        ),
-        (
-            "change 5",
-            "change: the line ends where 'reservation' is expected",
-        ),
-        (
-            "change 5 reservation -1",
-            "change: reservation: '-1' is not a decimal number",
-        ),
-        ("report", "report: the line ends before the reason"),
-        (
-            "report 0 5",
-            "report: '0' is no reason: tick, block, yield, exit, or reason",
-        ),
-        (
-            "report tick",
-            "report: the line ends before the number of the ticks",
-        ),
-        (
-            "report tick 4294967296",
-            "report: the ticks: '4294967296' is above 4294967295",
-        ),
-        (
-            "report reason 256 1",
-            "report: the reason: '256' is above 255",
-        ),
-        ("report tick 5 6", "report: '6' after the end of the line"),
-        (
-            "start thousandth 1 interval 2 overun 5",
-            "start: 'overrun' or the end of the line expected, 'overun' found",
-        ),
-        (
-            "start thousandth 1 interval 2 overrun",
-            "start: the line ends before the number of overrun",
-        ),
-        ("block 7", "block 7 stands in the place of block 1"),
-        ("block x", "the block: 'x' is not a decimal number"),
-        ("block 1 2", "'2' after the end of the line"),
-        ("hex 00", "'hex' belongs under a line 'damaged'"),
-        (
-            "damaged 1",
-            "the line ends before the number of the refusal",
-        ),
-        ("damaged 1 20", "the refusal: '20' is above 19"),
-        (
-            "damaged 1 18",
-            "damaged block 1 has 0 bytes; 1 to 512 are expected",
-        ),
-        (
-            "damaged 1 18\nhex 00",
-            "block 1 is refused with 17 (not 512 bytes), not 18",
-        ),
-        (
-            "a\u{7f}b",
-            "this is not text (journal decode makes text of blocks)",
-        ),
-    ] {
+    for row in WRONG.lines() {
+        let (text, message) = row.split_once(" => ").unwrap();
         // On line 3, in block 0 or at the beginning of block 1.
+        let text = text.replace(" / ", "\n");
         let (line, found) = problem(&format!("# comment\ndispatch\n{text}\n"));
         assert_eq!(line, 3, "{text}");
         assert!(found.starts_with(message), "{text}: {found}");
@@ -282,86 +224,66 @@ fn all_problems_are_named_up_to_a_number() {
     assert!(problems[0].message.starts_with("this is not text"));
 }
 
-/// Every word that may stand behind the five numbers, but for those of damage.
+/// Records, and all that may stand behind the five numbers but for those of damage.
+const SAID: &str = "\
+dispatch => idle
+start thousandth 0 interval 1 => m or P outside its range
+start thousandth 1 interval 1 overrun 1 => m, P or O outside its range
+start thousandth 100 interval 20000 =>
+open 1 parent 16 ceiling 1 => the parent is above 15 or not open
+open 16 parent 0 ceiling 1 => the number is above 15, already open or not above the parent's
+open 1 parent 0 ceiling 0 => ceiling outside 1 to 1000
+open 1 parent 0 ceiling 300 =>
+open 2 parent 0 ceiling 701 => more than the parent has free
+close 0 => the group is 0, above 15 or not open
+admit 64 group 0 reservation 1 => number above 63
+admit 64 weight 1 => number above 63
+admit 1 group 2 reservation 1 => the group is above 15 or not open
+admit 1 group 0 reservation 0 => reservation outside 1 to 1000
+admit 1 group 0 reservation 701 => more than the group has free
+admit 1 group 1 reservation 10 =>
+admit 1 weight 3 => already admitted
+close 1 => the group has a thread or a child
+admit 9 weight 17 => weight outside 1 to 16
+admit 9 weight 3 =>
+wake 3 => number above 63 or not admitted
+wake 1 => it is not blocked
+change 8 reservation 5 => number above 63 or not admitted
+change 9 reservation 5 => a best-effort thread has no reservation
+change 1 reservation 1001 => reservation outside 1 to 1000
+change 1 reservation 301 => more than the group has free, its own included
+report tick 0 => nothing is running
+dispatch =>
+dispatch => a thread is running
+remove 1 => it is running
+report tick 1001 => more used than the slice
+report reason 4 0 => reason above 3
+report block 0 =>
+dispatch => best-effort
+start thousandth 10 interval 1000 overrun 9 =>
+admit 1 group 0 reservation 10 =>
+dispatch =>
+report tick 110 => more used than the slice and O
+report tick 109 => 9 beyond the slice
+dispatch =>
+report exit 91 =>
+dispatch => idle
+";
+
 #[test]
 fn what_run_says_beside_the_numbers() {
-    let table = [
-        ("dispatch", "idle"),
-        ("start thousandth 0 interval 1", "m or P outside its range"),
-        (
-            "start thousandth 1 interval 1 overrun 1",
-            "m, P or O outside its range",
-        ),
-        ("start thousandth 100 interval 20000", ""),
-        (
-            "open 1 parent 16 ceiling 1",
-            "the parent is above 15 or not open",
-        ),
-        (
-            "open 16 parent 0 ceiling 1",
-            "the number is above 15, already open or not above the parent's",
-        ),
-        ("open 1 parent 0 ceiling 0", "ceiling outside 1 to 1000"),
-        ("open 1 parent 0 ceiling 300", ""),
-        (
-            "open 2 parent 0 ceiling 701",
-            "more than the parent has free",
-        ),
-        ("close 0", "the group is 0, above 15 or not open"),
-        ("admit 64 group 0 reservation 1", "number above 63"),
-        ("admit 64 weight 1", "number above 63"),
-        (
-            "admit 1 group 2 reservation 1",
-            "the group is above 15 or not open",
-        ),
-        (
-            "admit 1 group 0 reservation 0",
-            "reservation outside 1 to 1000",
-        ),
-        (
-            "admit 1 group 0 reservation 701",
-            "more than the group has free",
-        ),
-        ("admit 1 group 1 reservation 10", ""),
-        ("admit 1 weight 3", "already admitted"),
-        ("close 1", "the group has a thread or a child"),
-        ("admit 9 weight 17", "weight outside 1 to 16"),
-        ("admit 9 weight 3", ""),
-        ("wake 3", "number above 63 or not admitted"),
-        ("wake 1", "it is not blocked"),
-        ("change 8 reservation 5", "number above 63 or not admitted"),
-        (
-            "change 9 reservation 5",
-            "a best-effort thread has no reservation",
-        ),
-        ("change 1 reservation 1001", "reservation outside 1 to 1000"),
-        (
-            "change 1 reservation 301",
-            "more than the group has free, its own included",
-        ),
-        ("report tick 0", "nothing is running"),
-        ("dispatch", ""),
-        ("dispatch", "a thread is running"),
-        ("remove 1", "it is running"),
-        ("report tick 1001", "more used than the slice"),
-        ("report reason 4 0", "reason above 3"),
-        ("report block 0", ""),
-        ("dispatch", "best-effort"),
-        ("start thousandth 10 interval 1000 overrun 9", ""),
-        ("admit 1 group 0 reservation 10", ""),
-        ("dispatch", ""),
-        ("report tick 110", "more used than the slice and O"),
-        ("report tick 109", "9 beyond the slice"),
-        ("dispatch", ""),
-        ("report exit 91", ""),
-        ("dispatch", "idle"),
-    ];
-    let lines = table.map(|(line, _)| format!("{line}\n"));
-    let text = ran(Journal::whole(&encode(&lines.concat())), &Notes::new());
-    let words: Vec<String> = comments(&text)
-        .map(|comment| comment.splitn(6, ' ').skip(5).collect())
-        .collect();
-    assert_eq!(words, table.map(|(_, words)| words));
+    let rows = SAID.lines().map(|row| row.split_once(" =>").unwrap());
+    let (lines, said): (Vec<&str>, Vec<&str>) = rows.unzip();
+    let text = ran(Journal::whole(&encode(&lines.join("\n"))), &Notes::new());
+    let words = comments(&text).map(|comment| comment.splitn(6, ' ').nth(5));
+    let words: Vec<&str> = words.map(Option::unwrap_or_default).collect();
+    assert!(
+        words
+            .iter()
+            .copied()
+            .eq(said.iter().map(|words| words.trim())),
+        "{text}"
+    );
     // The answers stand in a column.
     let text = ran(Journal::whole(&listing()), &Notes::new());
     let dispatch = "\ndispatch                                   # 3 0 5 20000 0\n";

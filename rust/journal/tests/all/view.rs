@@ -84,59 +84,40 @@ fn records_among_which_no_time_passes_are_shown_up_to_the_next_report() {
     assert!(part(&journal, "", "99", &[]).contains("records 0 to 14"));
 }
 
+/// From, to and a thread, and what is said of a journal without them.
+const ABSENT: &str = "\
+15 | | => --from 15: the last record is 14
+60ms | | => --from 60 ms: the journal ends at 60 ms
+50ms | 40ms | => nothing lies between --from 50 ms and --to 40 ms
+9 | 3 | => nothing lies between --from 9 and --to 3
+| | 6 => --thread 6: it is never admitted
+";
+
 #[test]
 fn what_is_not_there_is_told() {
-    let late = "admit 1 group 0 reservation 9\ndispatch\nreport tick 500\n\
-                admit 2 group 0 reservation 9\n";
-    let (listing, late) = (&listing()[..], &encode(late)[..]);
-    for (journal, (from, to), threads, told) in [
-        (
-            listing,
-            ("15", ""),
-            &[][..],
-            "--from 15: the last record is 14",
-        ),
-        (
-            listing,
-            ("60ms", ""),
-            &[],
-            "--from 60 ms: the journal ends at 60 ms",
-        ),
-        (
-            listing,
-            ("50ms", "40ms"),
-            &[],
-            "nothing lies between --from 50 ms and --to 40 ms",
-        ),
-        (
-            listing,
-            ("9", "3"),
-            &[],
-            "nothing lies between --from 9 and --to 3",
-        ),
-        (
-            listing,
-            ("", ""),
-            &[5, 6],
-            "--thread 6: it is never admitted",
-        ),
-        (&[], ("3", ""), &[], "--from 3: there is no record"),
-        (&[], ("", "3"), &[], "--to 3: no record stands before it"),
-        (
-            late,
-            ("", "300us"),
-            &[2],
-            "--thread 2: it is not admitted between --from and --to",
-        ),
-    ] {
+    let said = |journal: &[u8], from: &str, to: &str, threads: &[u8]| {
         let options = Options {
             view: view(from, to, threads),
             ..Options::default()
         };
         let journal = Journal::whole(journal);
-        let drawn = draw::<Proved>(journal, &options, &mut Progress::silent());
-        assert_eq!(drawn.unwrap_err(), told);
+        draw::<Proved>(journal, &options, &mut Progress::silent()).unwrap_err()
+    };
+    for row in ABSENT.lines() {
+        let (asked, told) = row.split_once(" => ").unwrap();
+        let asked: Vec<&str> = asked.split('|').map(str::trim).collect();
+        let threads: Vec<u8> = asked[2].parse().into_iter().collect();
+        assert_eq!(said(&listing(), asked[0], asked[1], &threads), told);
     }
+    let later =
+        encode("admit 1 group 0 reservation 9\ndispatch\nreport tick 500\nadmit 2 weight 1\n");
+    let told = "--thread 2: it is not admitted between --from and --to";
+    assert_eq!(said(&later, "", "300us", &[2]), told);
+    assert_eq!(said(&[], "3", "", &[]), "--from 3: there is no record");
+    assert_eq!(
+        said(&[], "", "3", &[]),
+        "--to 3: no record stands before it"
+    );
 }
 
 #[test]
