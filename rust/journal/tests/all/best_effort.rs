@@ -1,5 +1,6 @@
 //! Best-effort threads in figures and pictures.
 
+use journal::draw::WIDTH;
 use journal::engine::Proved;
 use journal::names::Names;
 use journal::track::View;
@@ -28,7 +29,7 @@ fn whole(text: &str) -> Told {
 
 /// The picture of a text, of some threads and up to a mark.
 fn shown(text: &str, threads: &[u8], to: &str) -> String {
-    picture(&encode(text), view("", to, threads), &names(), 0)
+    picture(&encode(text), view("", to, threads), names(), WIDTH)
 }
 
 #[test]
@@ -213,7 +214,7 @@ fn parts_narrow_pictures_and_long_journals() {
     assert!(svg.contains(">667 ‰<") && svg.contains(">1 of 4<"));
     assert!(svg.contains("shared by weight: 30 ms<"));
     assert!(!svg.contains("class=\"panel\""));
-    let narrow = picture(&encode(SHARED), View::default(), &names(), 400);
+    let narrow = picture(&encode(SHARED), View::default(), names(), 400);
     assert!(narrow.contains(">what is left: 92 ms<"));
     let long = crate::common::svg(&spare::play::<Proved>(12_000_000).journal());
     assert!(long.contains("(heights: parts of the time"));

@@ -160,7 +160,7 @@ fn parts_show_the_changes_in_them_and_the_reservations_of_their_time() {
 fn narrow_pictures_show_the_last_reservation() {
     let mut names = Names::default();
     names.give(1, "readout");
-    let narrow = picture(&encode(CHANGED), View::default(), &names, 360);
+    let narrow = picture(&encode(CHANGED), View::default(), names, 360);
     assert!(!narrow.contains(">100 → 300 → 50 ‰<") && narrow.contains(">→ 50 ‰<"));
     assert!(narrow.contains("reservation 100 → 300 → 50 ‰ in group 0"));
 }

@@ -6,7 +6,7 @@ use std::io::Write;
 use std::path::{Path, PathBuf};
 use std::process::{Command, Output, Stdio};
 
-use journal::draw::{draw, Drawing, Options};
+use journal::draw::{draw, Drawing, Options, WIDTH};
 use journal::engine::Proved;
 use journal::names::Names;
 use journal::playback::Journal;
@@ -84,17 +84,14 @@ pub fn drawn(journal: &[u8], options: &Options) -> Drawing {
     drawing
 }
 
-/// The picture of a part with names and of a width, 0 for that of no option.
-pub fn picture(journal: &[u8], view: View, names: &Names, width: u32) -> String {
-    let names = names.clone();
-    let mut options = Options {
+/// The picture of a part with names and of a width.
+pub fn picture(journal: &[u8], view: View, names: Names, width: u32) -> String {
+    let options = Options {
+        title: None,
         names,
         view,
-        ..Options::default()
+        width,
     };
-    if width > 0 {
-        options.width = width;
-    }
     drawn(journal, &options).svg
 }
 
@@ -104,7 +101,7 @@ pub fn svg(journal: &[u8]) -> String {
 
 /// The picture of a part.
 pub fn part(journal: &[u8], from: &str, to: &str, threads: &[u8]) -> String {
-    picture(journal, view(from, to, threads), &Names::default(), 0)
+    picture(journal, view(from, to, threads), Names::default(), WIDTH)
 }
 
 /// The figures of a part, in each form.

@@ -279,6 +279,15 @@ fn many_overruns_are_thinned_out() {
         .map(|step| step.split('H').next().unwrap().parse().unwrap())
         .collect();
     assert!(steps.len() > 50 && steps.is_sorted_by(|a, b| a >= b));
+    // One thread overruns 2000 times while another, the one shown, waits.
+    let mut text = String::from(
+        "start thousandth 1000 interval 1 overrun 1\n\
+         admit 1 group 0 reservation 900\nadmit 2 group 0 reservation 9\n",
+    );
+    text.push_str(&"dispatch\nreport tick 2\n".repeat(2000));
+    let waits = part(&encode(&text), "", "", &[2]);
+    assert!(waits.contains(" + fV") && waits.contains("(heights:"));
+    assert!(waits.len() < 50_000, "{}", waits.len());
 }
 
 #[test]

@@ -151,7 +151,7 @@ fn counted(text: &str) -> [u64; 5] {
 #[test]
 fn figures_add_up() {
     let mut r = Rng::new(31);
-    let (mut all, mut cuts, mut pairs) = ([0; 5], 0, 0);
+    let (mut all, mut cuts) = ([0; 5], 0);
     for bytes in journals(&mut r, 240) {
         let text = ran(Journal::whole(&bytes), &Notes::new());
         let whole = told(&bytes);
@@ -161,14 +161,6 @@ fn figures_add_up() {
         let found = counted(&text);
         assert_eq!([&sums[..], &[refused]].concat(), found);
         all = std::array::from_fn(|i| all[i] + found[i]);
-        for row in whole.efforts.lines().skip(1) {
-            let field = |n: usize| row.split(',').nth(n).unwrap();
-            let number = |n: usize| field(n).parse::<u64>().unwrap();
-            assert!((1..=16).contains(&number(2)) && number(3) <= 1000);
-            assert!(number(5) <= number(6) && number(8) <= number(9), "{row}");
-            assert_eq!(field(7).is_empty(), number(9) == 0);
-            pairs += u64::from(number(9) > 0);
-        }
         let end = sum(&whole.csv, "ticks");
         if end < 2 {
             continue;
@@ -190,7 +182,7 @@ fn figures_add_up() {
     }
     assert!(all[0] > 2000 && all[1] > 100, "{all:?}");
     assert!(all[3] > 300 && all[4] > 1000, "{all:?}");
-    assert!(cuts > 100 && pairs > 80, "{cuts} {pairs}");
+    assert!(cuts > 100, "{cuts}");
 }
 
 #[test]

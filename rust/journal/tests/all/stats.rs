@@ -85,17 +85,10 @@ fn figures_of_runs_beyond_their_slices() {
 /// To the nearest thousandth, half to even.
 #[test]
 fn shares_are_rounded() {
-    for (ticks, time, share) in [
-        (1, 2000, 0),
-        (3, 2000, 2),
-        (5, 2000, 2),
-        (1999, 2000, 1000),
-        (3, 16, 188),
-        (1, 16, 62),
-        (0, 0, 0),
-    ] {
-        assert_eq!(thousandths(ticks, time), share, "{ticks} of {time}");
-    }
+    let of_2000 = [1, 3, 5, 1999].map(|ticks| thousandths(ticks, 2000));
+    assert_eq!(of_2000, [0, 2, 2, 1000]);
+    assert_eq!([1, 3].map(|ticks| thousandths(ticks, 16)), [62, 188]);
+    assert_eq!(thousandths(0, 0), 0);
     // In a part, of a life that is over, and at the end.
     let text = "admit 1 group 0 reservation 500\nadmit 2 group 0 reservation 100\n\
                 dispatch\nreport exit 3\ndispatch\nreport tick 1997\n";

@@ -114,10 +114,8 @@ fn what_is_not_there_is_told() {
     let told = "--thread 2: it is not admitted between --from and --to";
     assert_eq!(said(&later, "", "300us", &[2]), told);
     assert_eq!(said(&[], "3", "", &[]), "--from 3: there is no record");
-    assert_eq!(
-        said(&[], "", "3", &[]),
-        "--to 3: no record stands before it"
-    );
+    let told = "--to 3: no record stands before it";
+    assert_eq!(said(&[], "", "3", &[]), told);
 }
 
 #[test]
