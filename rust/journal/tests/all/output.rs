@@ -7,11 +7,6 @@ use std::time::Duration;
 
 use crate::common::*;
 
-/// A journal that takes a while.
-fn long() -> Vec<u8> {
-    encode(&"dispatch\n".repeat(400_000))
-}
-
 /// `decode` writes piece by piece, `stats` and the others at the end.
 #[test]
 fn streams_that_fail_are_told() {
@@ -98,7 +93,8 @@ fn a_replaced_file_keeps_its_mode_and_links_lead_to_it() {
 #[test]
 fn a_killed_run_leaves_the_old_file_and_the_next_takes_its_part_away() {
     let folder = Folder::new("killed");
-    let blocks = folder.file("long.blocks", long());
+    // A journal that takes a while.
+    let blocks = folder.file("long.blocks", encode(&"dispatch\n".repeat(400_000)));
     let out = folder.file("out.txt", "as it was");
     // What an earlier run left, and what another that lives is writing.
     folder.file(".out.txt.4194305.part", "half");
@@ -130,7 +126,9 @@ fn a_killed_run_leaves_the_old_file_and_the_next_takes_its_part_away() {
     assert!(!folder.names().contains(&earlier));
 
     assert_eq!(good(&["decode", &blocks, "-o", &out], b""), "");
-    assert!(fs::read(&out).unwrap().starts_with(b"block 0\n"));
+    let text = fs::read_to_string(&out).unwrap();
+    assert!(text.starts_with("block 0\n") && text.ends_with("\ndispatch\n"));
+    assert_eq!(text.lines().count(), 400_000 + 12_904);
     assert!(fs::metadata(&part).is_err());
     // Those of a living process and of another result stay.
     assert!(fs::metadata(held).is_ok() && fs::metadata(other).is_ok());
