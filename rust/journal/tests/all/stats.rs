@@ -112,6 +112,11 @@ fn groups_ends_and_damage_are_told() {
     assert!(text.contains("No record was refused."));
     assert!(text.contains("At 0.7 ms block 1 was refused: 18, check wrong; 1 record not run."));
     assert!(told(&[]).text.contains("No thread was admitted."));
+    // A group that is closed before a part is not in it.
+    let closed = "open 2 parent 0 ceiling 300\nclose 2\nadmit 1 group 0 reservation 9\n\
+                  dispatch\nreport tick 5\n";
+    let part = figures(&encode(closed), &view("1us", "", &[]), &Names::default());
+    assert!(!part.text.contains("group 2") && told(&encode(closed)).text.contains("group 2"));
     let ended = "admit 1 group 0 reservation 1\nstart thousandth 1 interval 1\n\
                  admit 2 group 0 reservation 1\n";
     let text = told(&encode(ended)).text;

@@ -133,6 +133,7 @@ fn gaps_are_in_the_part_or_not() {
         ("0", "3", false),
         ("93", "", false),
         ("1ms", "14ms", false),
+        ("1ms", "15ms", true),
         ("14ms", "16ms", true),
         ("15ms", "30ms", true),
         ("16ms", "30ms", false),
