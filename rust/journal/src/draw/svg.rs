@@ -208,12 +208,4 @@ mod tests {
         assert_eq!(lines.join(" "), text);
         assert_eq!(wrap(text, 12.0, 1000.0), [text]);
     }
-
-    #[test]
-    fn text_is_escaped() {
-        assert_eq!(
-            escape("a<b & \"c\"\u{1}"),
-            "a&lt;b &amp; &quot;c&quot;\u{fffd}"
-        );
-    }
 }

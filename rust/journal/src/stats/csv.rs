@@ -107,14 +107,3 @@ fn quoted(field: &str) -> String {
         false => field.to_string(),
     }
 }
-
-#[cfg(test)]
-mod tests {
-    use super::*;
-
-    #[test]
-    fn fields_are_quoted_where_they_need_it() {
-        assert_eq!(quoted("readout"), "readout");
-        assert_eq!(quoted("a, \"b\""), "\"a, \"\"b\"\"\"");
-    }
-}

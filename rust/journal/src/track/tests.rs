@@ -5,15 +5,36 @@ mod changes;
 mod fairness;
 
 use super::*;
-use crate::codec::{self, RECORDS};
 use crate::engine::{bound, Proved};
 use model::blocks;
 use model::calls::{self, Call};
 use model::rule::Scheduler;
 use samples::random::{self, Rng};
+use samples::records;
 
 fn encode(text: &str) -> Vec<u8> {
     crate::text::encode(text.as_bytes(), 0, false, &mut Progress::silent()).unwrap()
+}
+
+/// The part between two times.
+fn between(from: u64, to: u64) -> Window {
+    let at = |time| At { time, gaps: 0 };
+    Window {
+        from: at(from),
+        to: at(to),
+        ..Window::whole()
+    }
+}
+
+/// Hands a sink what lies in a part.
+fn tracked<S: Sink>(journal: &[u8], window: &Window, mut sink: S) -> S {
+    let mut clip = Clip::new(window, &mut sink);
+    track::<Proved>(Journal::whole(journal), &mut Progress::silent(), &mut clip);
+    sink
+}
+
+fn surveyed(journal: &[u8], window: &Window) -> Survey {
+    tracked(journal, window, Survey::new::<Proved>(window.from))
 }
 
 /// A record as the model takes it.
@@ -30,43 +51,37 @@ fn of_model(record: &Record) -> blocks::Record {
 }
 
 /// Checks each life as it ends against the spans, limits and changes handed out
-/// for it.
+/// for it, in a whole journal or in a part of one without gaps.
 #[derive(Default)]
 struct Checked {
+    /// The part, if it is one, begins here.
+    part: Option<At>,
     spans: Vec<Vec<Span>>,
     limits: Vec<Vec<Limit>>,
     changes: Vec<Vec<Change>>,
     /// The last span of a thread's last life.
     last: Vec<Option<Span>>,
     ticks: u64,
-    lives: u64,
     /// Lives of best-effort threads.
     efforts: u64,
-    /// Overruns, limits that rise, and limits that fall back.
-    overruns: u64,
+    /// Limits that rise, and limits that fall back.
     rises: u64,
     falls: u64,
     /// Spans that a change alone parts from the one before.
     parted: u64,
     gaps: u64,
-    end: At,
 }
 
 impl Checked {
-    fn of(journal: &[u8]) -> Checked {
-        let mut checked = Checked {
+    fn new(part: Option<At>) -> Checked {
+        Checked {
+            part,
             spans: vec![Vec::new(); THREADS],
             limits: vec![Vec::new(); THREADS],
             changes: vec![Vec::new(); THREADS],
             last: vec![None; THREADS],
             ..Checked::default()
-        };
-        track::<Proved>(
-            Journal::whole(journal),
-            &mut Progress::silent(),
-            &mut checked,
-        );
-        checked
+        }
     }
 }
 
@@ -206,11 +221,9 @@ impl Sink for Checked {
 
     fn overrun(&mut self, o: &Overrun) {
         assert!(o.length() > 0);
-        self.overruns += 1;
     }
 
     fn limit(&mut self, limit: &Limit) {
-        assert!(!limit.is_empty() || self.limits[limit.thread as usize].is_empty());
         self.limits[limit.thread as usize].push(*limit);
     }
 
@@ -219,10 +232,10 @@ impl Sink for Checked {
     }
 
     fn life(&mut self, life: &Life) {
-        self.lives += 1;
         let n = life.thread as usize;
         let limits = std::mem::take(&mut self.limits[n]);
         let changes = std::mem::take(&mut self.changes[n]);
+        let spans = std::mem::take(&mut self.spans[n]);
         let effort = life.class.is_best_effort();
         if effort {
             // It has no lag.
@@ -230,12 +243,13 @@ impl Sink for Checked {
             assert!(limits.is_empty() && changes.is_empty() && life.bound == 0);
         } else {
             checked_changes(life, &changes);
-            let (rises, falls) = checked_limits(life, &limits, &changes, true);
+            let whole = self.part.is_none();
+            let (rises, falls) = checked_limits(life, &limits, &changes, whole);
             (self.rises, self.falls) = (self.rises + rises, self.falls + falls);
         }
         let mut at = life.from;
         let mut before: Option<Span> = None;
-        for span in &self.spans[n] {
+        for span in &spans {
             // Spans follow each other without a hole.
             assert_eq!(span.from, at);
             at = span.end();
@@ -257,8 +271,7 @@ impl Sink for Checked {
             before = Some(*span);
         }
         assert_eq!(at.time, life.to);
-        self.last[n] = self.spans[n].last().copied();
-        self.spans[n].clear();
+        self.last[n] = before;
     }
 
     fn gap(&mut self, gap: &Gap) {
@@ -271,17 +284,14 @@ impl Sink for Checked {
         assert_eq!(at.gaps, self.gaps);
         assert!(self.spans.iter().all(Vec::is_empty));
         // Every tick of every accepted report fell to one thread.
-        assert_eq!(self.ticks, at.time);
-        self.end = at;
+        assert_eq!(self.ticks, at.time - self.part.unwrap_or_default().time);
     }
 }
 
-/// The state at the end, and the survey, which must agree with it.
-fn surveyed(journal: &[u8], checked: &Checked) {
-    let journal = Journal::whole(journal);
-    let quiet = &mut Progress::silent();
-    let mut survey = Survey::new::<Proved>(At::default());
-    track::<Proved>(journal, quiet, &mut survey);
+/// The survey and the state at the end agree.
+fn agree(journal: &[u8], checked: &Checked) {
+    let survey = surveyed(journal, &Window::whole());
+    let (journal, quiet) = (Journal::whole(journal), &mut Progress::silent());
     let state = play::<Proved>(journal, quiet, |_, _| ControlFlow::Continue(()));
     for n in 0..THREADS as u8 {
         let t = &survey.threads[n as usize];
@@ -312,121 +322,57 @@ fn surveyed(journal: &[u8], checked: &Checked) {
     }
 }
 
-fn ours(r: model::blocks::Record) -> Record {
-    Record {
-        kind: r.kind,
-        subject: r.subject,
-        group: r.group,
-        reason: r.reason,
-        amount: r.amount,
-        overrun: r.overrun,
-        ticks: r.ticks,
-    }
-}
-
-fn pack(records: &[Record]) -> Vec<u8> {
-    let row = (0u32..).zip(records.chunks(RECORDS));
-    row.flat_map(|(n, records)| codec::write(n, records).unwrap())
-        .collect()
-}
-
-#[test]
-fn spans_of_random_journals_are_whole_and_within_the_bound() {
-    let mut r = Rng::new(20);
-    let (mut lives, mut efforts, mut overruns, mut parted) = (0, 0, 0, 0);
-    for _ in 0..2000 {
-        let journal = random::journal(&mut r);
-        let checked = Checked::of(&journal);
-        surveyed(&journal, &checked);
-        lives += checked.lives;
-        efforts += checked.efforts;
-        overruns += checked.overruns;
-        parted += checked.parted;
-    }
-    assert!(lives > 10_000 && overruns > 1000, "{lives} {overruns}");
-    assert!(parted > 1000 && efforts > 1000, "{parted} {efforts}");
-}
-
-/// Records of a scheduler with long lives.
-fn long_lives(r: &mut Rng, s: &mut Scheduler, records: usize) -> Vec<Record> {
-    let mut out = Vec::new();
+/// A journal with long lives and an overrun limit.
+fn late_journal(r: &mut Rng, records: usize) -> Vec<u8> {
+    let (m, p) = (r.range(2, 1000), r.range(1, 20_000));
+    let o = r.range(1, m - 1);
+    let mut out = vec![records::start(m as u16, p as u32, o as u16)];
+    let mut s = Scheduler::start(m, p, o).unwrap();
     while out.len() < records {
-        let call = random::call(r, s);
+        let call = random::call(r, &s);
         let ends =
             matches!(call, Call::Remove { .. }) || matches!(call, Call::Report { reason: 3, .. });
         if ends && !r.chance(1, 20) {
             continue;
         }
-        calls::apply(s, call);
-        out.push(ours(calls::record(call)));
+        calls::apply(&mut s, call);
+        out.push(calls::record(call));
     }
-    out
-}
-
-/// A journal with long lives and an overrun limit.
-fn late_journal(r: &mut Rng, records: usize) -> Vec<u8> {
-    let (m, p) = (r.range(2, 1000), r.range(1, 20_000));
-    let o = r.range(1, m - 1);
-    let mut out = vec![Record {
-        kind: kind::START,
-        amount: m as u16,
-        ticks: p as u32,
-        overrun: o as u16,
-        ..Record::default()
-    }];
-    let mut s = Scheduler::start(m, p, o).unwrap();
-    out.extend(long_lives(r, &mut s, records));
-    pack(&out)
+    records::journal(&out)
 }
 
 #[test]
-fn spans_of_long_journals_are_whole_and_within_the_bound() {
-    let (mut rises, mut falls) = (0, 0);
-    for seed in 0..40 {
-        let mut r = Rng::new(seed);
-        let journal = match seed % 2 {
-            0 => pack(&long_lives(&mut r, &mut Scheduler::default(), 5000)),
-            _ => late_journal(&mut r, 5000),
+fn spans_are_whole_and_within_the_bound() {
+    let mut r = Rng::new(20);
+    let (mut efforts, mut parted, mut rises, mut falls) = (0, 0, 0, 0);
+    for i in 0..300 {
+        let journal = match i % 20 {
+            0 => late_journal(&mut r, 1500),
+            _ => random::journal(&mut r),
         };
-        let checked = Checked::of(&journal);
-        surveyed(&journal, &checked);
-        assert!(checked.end.time > 0);
-        assert_eq!(checked.overruns > 0, seed % 2 == 1);
-        assert_eq!(checked.rises > 0, seed % 2 == 1);
-        rises += checked.rises;
-        falls += checked.falls;
+        let checked = tracked(&journal, &Window::whole(), Checked::new(None));
+        agree(&journal, &checked);
+        (efforts, parted) = (efforts + checked.efforts, parted + checked.parted);
+        (rises, falls) = (rises + checked.rises, falls + checked.falls);
     }
-    assert!(rises > 10_000 && falls > 1000, "{rises} {falls}");
+    assert!(efforts > 200 && parted > 200, "{efforts} {parted}");
+    assert!(rises > 2000 && falls > 200, "{rises} {falls}");
 }
 
 #[test]
-fn the_core_given_again_to_the_same_thread_is_one_span() {
-    let text = "start thousandth 100 interval 20000\n\
-                admit 1 group 0 reservation 500\nadmit 2 group 0 reservation 500\n\
-                dispatch\nreport tick 20000\ndispatch\nreport tick 0\ndispatch\n\
-                report tick 20000\ndispatch\nreport yield 5\ndispatch\n";
-    let journal = crate::text::encode(text.as_bytes(), 0, false, &mut Progress::silent());
-    #[derive(Default)]
-    struct Spans(Vec<Span>, u64);
-    impl Sink for Spans {
-        fn span(&mut self, span: &Span) {
-            self.0.push(*span);
-        }
-        fn empty_run(&mut self, _: u8, _: At, _: u64) {
-            self.1 += 1;
+fn parts_are_whole_and_keep_the_bounds() {
+    let mut r = Rng::new(22);
+    let (mut rises, mut parted) = (0, 0);
+    for _ in 0..60 {
+        let journal = late_journal(&mut r, 200);
+        let end = surveyed(&journal, &Window::whole()).to.time;
+        let mut edges = [r.below(end + 1), r.below(end + 1)];
+        edges.sort_unstable();
+        for (from, to) in [(0, edges[0]), (edges[0], edges[1]), (edges[1], end)] {
+            let window = between(from, to);
+            let checked = tracked(&journal, &window, Checked::new(Some(window.from)));
+            (rises, parted) = (rises + checked.rises, parted + checked.parted);
         }
     }
-    let mut spans = Spans::default();
-    let journal = journal.unwrap();
-    track::<Proved>(
-        Journal::whole(&journal),
-        &mut Progress::silent(),
-        &mut spans,
-    );
-    let seen: Vec<_> = spans.0.iter().map(|s| (s.thread, s.what, s.to)).collect();
-    assert_eq!(seen, [(1, What::Run, 40_005), (2, What::Wait, 40_005)]);
-    assert_eq!(spans.0[0].last_lag(), -500 * 40_005);
-    assert_eq!(spans.0[1].last_lag(), 500 * 40_005);
-    // Thread 2 at the end.
-    assert_eq!(spans.1, 1);
+    assert!(rises > 2000 && parted > 50, "{rises} {parted}");
 }

@@ -13,9 +13,8 @@ use journal::engine::Proved;
 
 use crate::answer::answer;
 use crate::broken::RefillOnWake;
-use crate::command::{Folder, JOURNAL};
+use crate::common::{root, Folder, Ran, JOURNAL};
 use crate::controller::{play, Server, LENGTH};
-use crate::root;
 
 /// Commands that make a reader's shell ready.
 const SETUP: [&str; 3] = [
@@ -87,25 +86,22 @@ fn printed(command: &str, folder: &Path) -> String {
             }
         };
     }
-    let (code, out, errors) = ran(command, folder);
-    assert_eq!(code, 0, "{command}: {errors}");
-    out + &errors
+    let ran = ran(command, folder);
+    assert_eq!(ran.code, 0, "{command}: {}", ran.errors);
+    let errors = ran.errors.clone();
+    ran.text() + &errors
 }
 
-/// Runs a command in a folder: its exit status, standard output and standard
-/// error.
-fn ran(command: &str, folder: &Path) -> (i32, String, String) {
+/// Runs a command in a folder.
+fn ran(command: &str, folder: &Path) -> Ran {
     let tools = folder.join("tools");
     let path = std::env::var("PATH").unwrap();
     let output = Command::new("sh")
         .args(["-c", command])
         .current_dir(folder)
         .env("PATH", format!("{}:{path}", tools.display()))
-        .output()
-        .unwrap();
-    let code = output.status.code().unwrap();
-    let [out, errors] = [output.stdout, output.stderr].map(|s| String::from_utf8(s).unwrap());
-    (code, out, errors)
+        .output();
+    Ran::of(output.unwrap())
 }
 
 /// A folder as the repository's root is to the commands.
@@ -260,12 +256,11 @@ fn the_section_about_a_customers_priorities_is_true() {
     let [usable, wrong] = &shown[..] else {
         panic!("two commands expected: {shown:?}");
     };
-    let result = ran(&usable.command, &folder.0);
-    assert_eq!(result, (0, usable.printed.clone(), String::new()));
+    let printed = ran(&usable.command, &folder.0).good();
+    assert_eq!(printed, usable.printed.as_bytes());
 
     assert!(section.contains("With a 7 in the place of the 8"));
     assert_eq!(site.matches('8').count(), 1);
     fs::write(folder.0.join("site.txt"), site.replace('8', "7")).unwrap();
-    let result = ran(&wrong.command, &folder.0);
-    assert_eq!(result, (1, String::new(), wrong.printed.clone()));
+    assert_eq!(ran(&wrong.command, &folder.0).bad(1), wrong.printed);
 }

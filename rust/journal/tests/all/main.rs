@@ -4,12 +4,13 @@ mod best_effort;
 mod cases;
 mod change;
 mod command;
+mod common;
 mod documents;
 mod draw;
+mod generated;
 mod output;
 mod part;
 mod priorities;
-mod priority_tables;
 mod stats;
 mod text;
 mod view;
@@ -31,43 +32,3 @@ mod raised;
 mod spare;
 #[path = "../../examples/cases/table.rs"]
 mod table;
-
-use std::path::{Path, PathBuf};
-
-use journal::codec::{self, Record, RECORDS};
-use journal::progress::Progress;
-use journal::text::{self as texts, Problem};
-
-/// The repository's root.
-fn root() -> PathBuf {
-    Path::new(env!("CARGO_MANIFEST_DIR")).join("../..")
-}
-
-/// A record of the model's as one of the library's.
-fn ours(r: model::blocks::Record) -> Record {
-    Record {
-        kind: r.kind,
-        subject: r.subject,
-        group: r.group,
-        reason: r.reason,
-        amount: r.amount,
-        overrun: r.overrun,
-        ticks: r.ticks,
-    }
-}
-
-/// Blocks of the records, numbered from 0.
-fn pack(records: &[Record]) -> Vec<u8> {
-    let row = (0u32..).zip(records.chunks(RECORDS));
-    row.flat_map(|(n, records)| codec::write(n, records).unwrap())
-        .collect()
-}
-
-fn encoded(text: &str) -> Result<Vec<u8>, Vec<Problem>> {
-    texts::encode(text.as_bytes(), 0, false, &mut Progress::silent())
-}
-
-/// Blocks of a text without a wrong line.
-fn encode(text: &str) -> Vec<u8> {
-    encoded(text).unwrap()
-}

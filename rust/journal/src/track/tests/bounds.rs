@@ -4,86 +4,6 @@
 use super::*;
 use model::rule::{BLOCK, EXIT, RUNNABLE, YIELD};
 
-const LATE: &str = "start thousandth 10 interval 1000 overrun 9\n\
-    admit 1 group 0 reservation 10\nadmit 2 group 0 reservation 20\n\
-    dispatch\nreport tick 109\ndispatch\nreport yield 205\n\
-    dispatch\nreport block 91\ndispatch\nreport tick 200\nwake 1\n";
-
-#[derive(Default)]
-struct Seen {
-    overruns: Vec<(u8, u64, u64, u64)>,
-    /// By thread: from, to, the bound there and at the end.
-    limits: Vec<(u8, u64, u64, i64, i64)>,
-}
-
-impl Sink for Seen {
-    fn overrun(&mut self, o: &Overrun) {
-        self.overruns.push((o.thread, o.from.time, o.to, o.record));
-    }
-    fn limit(&mut self, l: &Limit) {
-        self.limits
-            .push((l.thread, l.from.time, l.to, l.bound, l.last_bound()));
-    }
-}
-
-#[test]
-fn a_bound_rises_while_another_overruns_and_falls_where_the_lag_begins_anew() {
-    let journal = encode(LATE);
-    let mut seen = Seen::default();
-    track::<Proved>(Journal::whole(&journal), &mut Progress::silent(), &mut seen);
-    let overruns = [(1, 100, 109, 4), (2, 309, 314, 6), (2, 600, 605, 10)];
-    assert_eq!(seen.overruns, overruns);
-    let of = |thread: u8| -> Vec<(u64, u64, i64, i64)> {
-        let limits = seen.limits.iter().filter(|l| l.0 == thread);
-        limits.map(|l| (l.1, l.2, l.3, l.4)).collect()
-    };
-    // 2 × 10 × 990 × 10 + 10 × 1000, and 10 × 5 until it blocks; then another's
-    // overrun counts for nothing.
-    assert_eq!(
-        of(1),
-        [
-            (0, 309, 208_000, 208_000),
-            (309, 314, 208_000, 208_050),
-            (314, 405, 208_050, 208_050),
-            (405, 605, 208_000, 208_000),
-        ]
-    );
-    // 2 × 20 × 980 × 10 + 20 × 1000, and 20 × 9 until it yields. Its own overruns
-    // count for nothing.
-    assert_eq!(
-        of(2),
-        [
-            (0, 100, 412_000, 412_000),
-            (100, 109, 412_000, 412_180),
-            (109, 314, 412_180, 412_180),
-            (314, 605, 412_000, 412_000),
-        ]
-    );
-    let mut survey = Survey::new::<Proved>(At::default());
-    track::<Proved>(
-        Journal::whole(&journal),
-        &mut Progress::silent(),
-        &mut survey,
-    );
-    let two = &survey.threads[2];
-    // Its lag is largest when the first run ends, beyond its slice.
-    assert_eq!(
-        two.largest,
-        Greatest {
-            lag: 20 * 109,
-            at: 109,
-            record: 2,
-            bound: 412_180
-        }
-    );
-    assert_eq!((two.bound, two.overruns, two.overrun), (412_180, 2, 10));
-    assert_eq!(
-        (two.longest_overrun.ticks, two.longest_overrun.record),
-        (5, 6)
-    );
-    assert!(survey.grown);
-}
-
 /// What the survey is to find, counted on the model's states.
 struct Count {
     model: Scheduler,
@@ -199,18 +119,13 @@ fn counted(journal: &[u8]) -> Count {
 fn bounds_and_overruns_agree_with_a_count_on_the_model() {
     let mut r = Rng::new(21);
     let (mut overruns, mut grown) = (0, 0);
-    for i in 0..600 {
+    for i in 0..150 {
         let journal = match i % 10 {
-            0 => late_journal(&mut r, 1500),
+            0 => late_journal(&mut r, 1000),
             _ => random::journal(&mut r),
         };
         let count = counted(&journal);
-        let mut survey = Survey::new::<Proved>(At::default());
-        track::<Proved>(
-            Journal::whole(&journal),
-            &mut Progress::silent(),
-            &mut survey,
-        );
+        let survey = surveyed(&journal, &Window::whole());
         for (n, t) in survey.threads.iter().enumerate() {
             assert_eq!((t.overruns, t.overrun), count.overruns[n]);
             let largest = (t.reserved_lives > 0).then_some((t.largest.lag, t.largest.bound));
@@ -219,93 +134,5 @@ fn bounds_and_overruns_agree_with_a_count_on_the_model() {
         overruns += survey.overruns();
         grown += u64::from(survey.grown);
     }
-    assert!(overruns > 3000 && grown > 200, "{overruns} {grown}");
-}
-
-/// Checks the limits and spans of a part at the end of each life.
-#[derive(Default)]
-struct Cut {
-    spans: Vec<Vec<Span>>,
-    limits: Vec<Vec<Limit>>,
-    changes: Vec<Vec<Change>>,
-    changed: u64,
-    overrun: u64,
-    rises: u64,
-}
-
-impl Sink for Cut {
-    fn span(&mut self, span: &Span) {
-        self.spans[span.thread as usize].push(*span);
-    }
-
-    fn limit(&mut self, limit: &Limit) {
-        self.limits[limit.thread as usize].push(*limit);
-    }
-
-    fn overrun(&mut self, o: &Overrun) {
-        self.overrun += o.length();
-    }
-
-    fn change(&mut self, c: &Change) {
-        self.changes[c.thread as usize].push(*c);
-    }
-
-    fn life(&mut self, life: &Life) {
-        let n = life.thread as usize;
-        let limits = std::mem::take(&mut self.limits[n]);
-        let changes = std::mem::take(&mut self.changes[n]);
-        let spans = std::mem::take(&mut self.spans[n]);
-        if life.class.is_best_effort() {
-            assert!(changes.is_empty() && limits.is_empty());
-            return;
-        }
-        checked_changes(life, &changes);
-        self.changed += changes.len() as u64;
-        self.rises += checked_limits(life, &limits, &changes, false).0;
-        let mut before = None;
-        for span in spans {
-            within(&span, &limits);
-            checked_slope(life, &span, before, &changes);
-            before = Some(span);
-        }
-    }
-}
-
-#[test]
-fn parts_keep_the_bounds_and_share_the_overruns() {
-    let mut r = Rng::new(22);
-    let (mut rises, mut changed) = (0, 0);
-    for _ in 0..240 {
-        let bytes = late_journal(&mut r, 200);
-        let journal = Journal::whole(&bytes);
-        let mut survey = Survey::new::<Proved>(At::default());
-        track::<Proved>(journal, &mut Progress::silent(), &mut survey);
-        let whole: u64 = survey.threads.iter().map(|t| t.overrun).sum();
-        let mut edges = [r.below(survey.to.time + 1), r.below(survey.to.time + 1)];
-        edges.sort_unstable();
-        let mut parts = 0;
-        for (from, to) in [(0, edges[0]), (edges[0], edges[1]), (edges[1], u64::MAX)] {
-            let window = Window {
-                from: At {
-                    time: from,
-                    gaps: 0,
-                },
-                to: At { time: to, gaps: 0 },
-                ..Window::whole()
-            };
-            let mut cut = Cut {
-                spans: vec![Vec::new(); THREADS],
-                limits: vec![Vec::new(); THREADS],
-                changes: vec![Vec::new(); THREADS],
-                ..Cut::default()
-            };
-            let mut clip = Clip::new(&window, &mut cut);
-            track::<Proved>(journal, &mut Progress::silent(), &mut clip);
-            parts += cut.overrun;
-            rises += cut.rises;
-            changed += cut.changed;
-        }
-        assert_eq!(parts, whole);
-    }
-    assert!(rises > 10_000 && changed > 1000, "{rises} {changed}");
+    assert!(overruns > 600 && grown > 40, "{overruns} {grown}");
 }

@@ -4,84 +4,6 @@
 use super::*;
 use model::rule::RUNNABLE;
 
-fn surveyed(journal: &[u8], window: &Window) -> Survey {
-    let mut survey = Survey::new::<Proved>(window.from);
-    let mut clip = Clip::new(window, &mut survey);
-    track::<Proved>(Journal::whole(journal), &mut Progress::silent(), &mut clip);
-    survey
-}
-
-/// Weights 1 and 3 beside a reserved thread that blocks at once. Thread 8 blocks
-/// after a turn each, wakes and is removed.
-const SPARE: &str = "start thousandth 100 interval 20000 overrun 10\n\
-    admit 1 group 0 reservation 100\nadmit 8 weight 1\nadmit 9 weight 3\n\
-    dispatch\nreport block 500\n\
-    dispatch\nreport tick 6000\ndispatch\nreport tick 20010\n\
-    dispatch\nreport block 1000\ndispatch\nreport yield 9000\nwake 8\n\
-    dispatch\nreport tick 0\ndispatch\nreport tick 0\nremove 8\n\
-    dispatch\nreport exit 40\n";
-
-#[test]
-fn parts_of_what_is_left_and_the_farthest_pair() {
-    let survey = surveyed(&encode(SPARE), &Window::whole());
-    let f = &survey.fairness;
-    assert_eq!((f.ticks(), f.weights()), (36_050, 4));
-    assert_eq!(f.portion(1), None);
-    let (eight, nine) = (f.portion(8).unwrap(), f.portion(9).unwrap());
-    assert_eq!((eight.weight, eight.ticks, eight.of), (1, 7_000, 36_010));
-    assert_eq!((nine.weight, nine.ticks, nine.of), (3, 29_050, 36_050));
-    assert_eq!((eight.share(), nine.share()), (194, 806));
-    // Both runnable: 3 × 6000 ahead, then 20,010 less and at last 3 × 1000 more.
-    let apart = eight.farthest.unwrap();
-    assert_eq!((apart.other, apart.weights, apart.at), (9, (1, 3), 26_510));
-    assert_eq!((apart.ticks, apart.limit), (20_010, 4 * 20_010));
-    assert_eq!(apart.per_weight(), 6_670.0);
-    assert_eq!(apart.limit_per_weight(), 26_680.0);
-    let other = nine.farthest.unwrap();
-    assert_eq!((other.other, other.weights), (8, (3, 1)));
-    assert_eq!((other.ticks, other.limit), (apart.ticks, apart.limit));
-    // A reserved thread's figures are its own.
-    let (one, nine) = (&survey.threads[1], &survey.threads[9]);
-    assert_eq!((one.reserved_lives, one.best_effort), (1, false));
-    assert_eq!((nine.reserved_lives, nine.best_effort), (0, true));
-    assert_eq!(
-        (nine.largest, nine.bound, nine.lowest),
-        (Greatest::default(), 0, 0)
-    );
-    assert_eq!(nine.longest_run.ticks, 20_010);
-    assert_eq!((nine.overruns, nine.overrun), (1, 10));
-}
-
-/// A part has the runs in it; a thread that is gone before it is not in it.
-#[test]
-fn parts_have_their_part_of_the_runs() {
-    let journal = encode(SPARE);
-    let part = |from, to| {
-        let at = |time| At { time, gaps: 0 };
-        let (from, to) = (at(from), at(to));
-        surveyed(
-            &journal,
-            &Window {
-                from,
-                to,
-                ..Window::whole()
-            },
-        )
-    };
-    let first = part(0, 8_500).fairness;
-    assert_eq!(first.ticks(), 8_000);
-    let (eight, nine) = (first.portion(8).unwrap(), first.portion(9).unwrap());
-    assert_eq!((eight.ticks, nine.ticks), (6_000, 2_000));
-    assert_eq!((eight.of, nine.of), (8_000, 8_000));
-    // 3 × 6000 ahead.
-    assert_eq!(eight.farthest.unwrap().ticks, 18_000);
-    // Only the exit: thread 8 was removed just before.
-    let last = part(36_511, 40_000).fairness;
-    assert_eq!((last.portion(8), last.weights()), (None, 3));
-    assert_eq!(last.portion(9).unwrap().share(), 1000);
-    assert_eq!(last.portion(9).unwrap().farthest, None);
-}
-
 /// What the survey is to find, counted on the model's states.
 struct Count {
     model: Scheduler,
@@ -171,9 +93,9 @@ impl Count {
 fn shares_and_pairs_agree_with_a_count_on_the_model() {
     let mut r = Rng::new(71);
     let (mut pairs, mut most, mut ticks) = (0, 0, 0);
-    for i in 0..600 {
+    for i in 0..120 {
         let journal = match i % 10 {
-            0 => late_journal(&mut r, 600),
+            0 => late_journal(&mut r, 300),
             1..=5 => random::blocking(&mut r),
             _ => random::journal(&mut r),
         };
@@ -205,6 +127,6 @@ fn shares_and_pairs_agree_with_a_count_on_the_model() {
         }
         (most, ticks) = (most.max(count.most), ticks + count.ticks);
     }
-    assert!(pairs > 1000 && most > 70, "{pairs} {most}");
-    assert!(ticks > 1_000_000, "{ticks}");
+    assert!(pairs > 150 && most > 50, "{pairs} {most}");
+    assert!(ticks > 200_000, "{ticks}");
 }
