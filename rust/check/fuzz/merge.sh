@@ -1,6 +1,6 @@
 #!/bin/sh
 # Takes into rust/check/fuzz/corpus.hex the smallest set of recipes that covers what target/fuzz/corpus covers, one a line as hexadecimal digits.
-# The gate runs them (tests/corpus.rs).
+# The gate runs them (tests/all/corpus.rs).
 set -eu
 cd "$(dirname "$0")/../../.."
 out=target/fuzz
