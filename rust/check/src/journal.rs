@@ -13,7 +13,7 @@ use crate::late::Late;
 use crate::share::Shares;
 use crate::ties::Ties;
 use model::accounts::Entry;
-use model::blocks::{check, fields, kind, read_block, write_block, Record, BLOCK, RECORDS};
+use model::blocks::{fields, kind, read_block, seal, write_block, Record, BLOCK, RECORDS};
 use model::calls::{self, record, recorded, Call};
 use model::rule::{Reply, Scheduler};
 use mtr::{numbers, raw};
@@ -129,12 +129,6 @@ pub fn case(recipe: &[u8]) -> Case {
         _ => listed(bytes),
     };
     Case { journal, pieces }
-}
-
-fn seal(block: &mut [u8; BLOCK]) {
-    let mut body = [0; 510];
-    body.copy_from_slice(&block[..510]);
-    block[510..].copy_from_slice(&check(&body));
 }
 
 fn sealed(bytes: &[u8]) -> Vec<u8> {
