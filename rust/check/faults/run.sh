@@ -10,7 +10,8 @@
 # by one up to the first that fails. Beforehand all tests must pass without a fault, and where a boundary's is asked for also with the
 # functions of passed_on.c, which do nothing wrong; --no-control leaves that out. target/faults/result.txt has a line for each fault: its
 # name, the package and the test that noticed it, parted by tabs; target/faults/log the last test's output. LIMIT are the seconds after which
-# the tests of a package are ended, 900 if not given. The status is 0 only if every fault was noticed.
+# the tests of a package are ended, 900 if not given; PACKAGES names those to test, if not all. The status is 0 only if every fault was
+# noticed.
 set -u
 cd "$(dirname "$0")/../../.." || exit 2
 root=$PWD out=$PWD/target/faults
@@ -163,6 +164,10 @@ back() {
 
 # The packages of the workspace, those of the place's order first.
 packages() { # PLACE
+    if [ -n "${PACKAGES-}" ]; then
+        echo "$PACKAGES" | tr ' ' '\n'
+        return
+    fi
     {
         order "$1" | tr ' ' '\n'
         echo
