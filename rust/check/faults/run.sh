@@ -2,16 +2,16 @@
 # Sets faults into a copy of the tree, one at a time, and sees that some test notices each: run.sh [--no-control] [NAME..], all if none is
 # named. A name is model/NAME, journal/NAME or boundary/NAME, as the files below this folder. After make check and make library.
 #
-# model/*.edit and journal/*.edit are edits of the sources, in the form of crates/*/must-fail; lines `old:` or `new:` that follow one another
-# are lines of one text. boundary/*.c define an exported function anew, over the library's own under the name proved_NAME. The first line of
-# each says what is wrong, with its number in RULE 10.5.
+# model/*.edit and journal/*.edit are edits of the sources, in the form of crates/*/must-fail; lines `old:` or `new:` that follow one
+# another are lines of one text. boundary/*.c define an exported function anew, over the library's own under the name proved_NAME. The
+# first line of each says what is wrong, with its number in RULE 10.5.
 #
 # The copy is target/faults/tree, of the files that git knows, and is compiled in less time than the tree. A fault's packages are tested one
 # by one up to the first that fails. Beforehand all tests must pass without a fault, and where a boundary's is asked for also with the
 # functions of passed_on.c, which do nothing wrong; --no-control leaves that out. target/faults/result.txt has a line for each fault: its
-# name, the package and the test that noticed it, parted by tabs; target/faults/log the last test's output. LIMIT are the seconds after which
-# the tests of a package are ended, 900 if not given; PACKAGES names those to test, if not all. The status is 0 only if every fault was
-# noticed.
+# name, the package and the test that noticed it, parted by tabs; target/faults/log the last test's output. One run has the copy at a time.
+# LIMIT are the seconds after which the tests of a package are ended, 900 if not given; PACKAGES names those to test, if not all. The status
+# is 0 only if every fault was noticed.
 set -u
 cd "$(dirname "$0")/../../.." || exit 2
 root=$PWD out=$PWD/target/faults
@@ -151,6 +151,9 @@ over() { # FILE
         }
     done
 }
+
+# The sums of what a fault has changed. If they are others after the tests, these have not seen the fault.
+sums() { (cd "$tree" && xargs cksum <"$kept/list"); }
 
 # Takes the fault out again. A file that is put back is newer than what was compiled.
 back() {
@@ -292,6 +295,9 @@ fi
 for file in target/staticlib/libabi.a target/bin/mtrrun target/bin/mtrwhy; do
     [ -f "$file" ] || fail "$file is missing: make check, make library"
 done
+mkdir -p "$out" || fail "$out can't be written"
+mkdir "$out/lock" 2>/dev/null || fail "another run has the copy; if there is none, remove $out/lock"
+trap 'rmdir "$out/lock"' EXIT
 copy || fail "the tree can't be copied to $tree"
 rm -rf "$kept"
 mkdir -p "$kept" || fail "$kept can't be written"
@@ -326,8 +332,17 @@ for file in "$@"; do
         back
         continue
     fi
+    sums >"$out/sums"
     noticed "$name" "$place"
-    case $? in
+    seen=$?
+    if ! sums | cmp -s - "$out/sums"; then
+        errors=$((errors + 1))
+        say "$name: ERROR: the copy was changed meanwhile"
+        printf '%s\tERROR\tthe copy was changed meanwhile\n' "$name" >>"$out/result.txt"
+        back
+        continue
+    fi
+    case $seen in
     0)
         found=$((found + 1))
         say "$name: $package, $test ($(($(date +%s) - at)) s)"
