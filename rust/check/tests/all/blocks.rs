@@ -8,8 +8,9 @@ use mtr::numbers;
 use samples::random::{any_record, Rng};
 use samples::records::dispatch;
 
-/// Fields of a record beside its kind: subject, group, reason, amount, ticks and overrun.
+/// Fields of a record beside its kind: subject, group, reason, amount, ticks and overrun; and their bits.
 const FIELDS: usize = 6;
+const BITS: [u32; FIELDS] = [8, 8, 8, 16, 32, 16];
 
 fn record_of(kind: u8, fields: [u64; FIELDS]) -> Record {
     Record {
@@ -64,12 +65,13 @@ fn read(area: &[u8], number: u32) -> Result<Vec<Record>, u32> {
     wanted
 }
 
-/// Each kind, those that there are not among them, with each field set alone.
+/// Each kind, those that there are not among them, with each bit of each field set alone.
 #[test]
 fn each_field_of_each_kind() {
     for kind in 0..=255 {
         for (field, used) in used(kind).into_iter().enumerate() {
-            for value in [0, 1, u64::MAX] {
+            let bits = (0..BITS[field]).map(|bit| 1 << bit);
+            for value in bits.chain([0, u64::MAX]) {
                 let mut fields = [0; FIELDS];
                 fields[field] = value;
                 let list = [dispatch(), record_of(kind, fields)];
@@ -85,7 +87,7 @@ fn each_field_of_each_kind() {
     }
 }
 
-/// Lists and areas of every length, damaged under a right check and under a wrong one.
+/// Lists and areas of every length, at any address, damaged under a right check and under a wrong one.
 #[test]
 fn lengths_and_damages() {
     let mut r = Rng::new(51);
@@ -95,10 +97,12 @@ fn lengths_and_damages() {
         let list: Vec<Record> = (0..count).map(|_| any_record(&mut r)).collect();
         let length = if round % 8 == 0 { r.edgy(0, 600) } else { 512 } as usize;
         let number = r.edgy(0, u32::MAX as u64) as u32;
-        let mut area = vec![r.bits() as u8; length];
-        let answer = write(&mut area, number, &list);
+        let at = r.below(16) as usize;
+        let mut held = vec![r.bits() as u8; at + length];
+        let area = &mut held[at..];
+        let answer = write(area, number, &list);
         writes[answer as usize] += 1;
-        if let (0, Ok(block)) = (answer, <&mut [u8; BLOCK]>::try_from(&mut area[..])) {
+        if let (0, Ok(block)) = (answer, <&mut [u8; BLOCK]>::try_from(&mut *area)) {
             let place = match r.below(3) {
                 0 => r.below(14),
                 1 => r.range(14, 13 + RECORD as u64 * count.max(1)),
@@ -109,7 +113,7 @@ fn lengths_and_damages() {
                 seal(block);
             }
         }
-        reads[read(&area, number).err().unwrap_or(0) as usize] += 1;
+        reads[read(area, number).err().unwrap_or(0) as usize] += 1;
     }
     println!("writes {writes:?} reads {reads:?}");
     let often = |counts: [u64; 20]| (0..20).filter(|&a| counts[a] > 500).collect::<Vec<_>>();

@@ -4,7 +4,7 @@
 use check::best_effort::quiet_call;
 use check::compare::{both, sound, start, Tally, KINDS};
 use model::calls::Call;
-use model::rule::{Scheduler, METER_LIMIT, NONE};
+use model::rule::{Scheduler, METER_LIMIT, METER_MAX, NONE};
 use samples::random::{call, edge_value, sound_state, Rng};
 
 /// The answers of each call on a sound state.
@@ -143,4 +143,48 @@ fn a_full_list() {
         assert_eq!(both(&mut s, Call::Wake { number }).answer, 0);
     }
     assert_eq!(both(&mut s, Call::Dispatch).thread, 63);
+}
+
+/// The longest report from the last tick before the meter's limit, by each reason and of either kind of thread.
+#[test]
+fn the_end_of_the_meter() {
+    let reserved = Call::Admit {
+        number: 9,
+        group: 0,
+        reservation: 1_000,
+    };
+    let best_effort = Call::AdmitBestEffort {
+        number: 9,
+        weight: 1,
+    };
+    for admission in [reserved, best_effort] {
+        let mut s = start(1_000, 1_000_000, 999).unwrap();
+        s.meter = METER_LIMIT - 1;
+        assert_eq!(both(&mut s, admission).answer, 0);
+        assert_eq!(both(&mut s, Call::Dispatch).slice, 1_000_000);
+        for reason in 0..4 {
+            let mut s = s;
+            let mut report = |used| both(&mut s, Call::Report { reason, used }).answer;
+            assert_eq!([report(1_001_000), report(1_000_999)], [13, 0]);
+            assert_eq!(s.meter, METER_MAX - 1);
+            assert_eq!(both(&mut s, Call::Dispatch).answer, 15);
+        }
+    }
+}
+
+/// Settings at their ends together, and numbers that fit only once cut.
+#[test]
+fn starts() {
+    let cut = |n: u64| [n, n + (1 << 16), n + (1 << 32)];
+    for m in [0, 1, 2, 999, 1_000, 1_001].into_iter().flat_map(cut) {
+        for p in [0, 1, 2, 999_999, 1_000_000, 1_000_001]
+            .into_iter()
+            .flat_map(cut)
+        {
+            for o in [0, 1, 998, 999, 1_000, m.saturating_sub(1), m, m + (1 << 16)] {
+                let fits = (1..=1_000).contains(&m) && (1..=1_000_000).contains(&p) && o < m;
+                assert_eq!(start(m, p, o).is_ok(), fits, "{m} {p} {o}");
+            }
+        }
+    }
 }

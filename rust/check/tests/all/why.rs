@@ -200,11 +200,11 @@ fn pieces_of_blocks() {
     let folder = Folder::new("pieces");
     let mut r = Rng::new(55);
     let mut seen = Sorts::new();
-    for blocks in [1, 31, 32, 33, 65] {
+    for blocks in [1, 31, 32, 33, 63, 64, 65, 96] {
         let input = long(&mut r, blocks).concat();
         let path = folder.file("journal", &input);
         let sorts = sorts(&input);
-        for place in [0, 30, 31, 32, 33, 64, 65] {
+        for place in [0, 30, 31, 32, 33, 62, 63, 64, 65, 95] {
             let numbers = RECORDS * place..RECORDS * (place + 1);
             let mut of: Vec<usize> = numbers.clone().collect();
             of.retain(|&n| sort_of(&sorts, n as u64).is_dispatch());

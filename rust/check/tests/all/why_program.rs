@@ -42,9 +42,11 @@ fn journal() -> Vec<u8> {
 const IDLE: &str = "0 64\n4 2\n";
 
 /// What is no number of 1 to 19 digits.
-const BAD: [&str; 10] = [
+const BAD: [&str; 13] = [
     "",
+    "-0",
     "-1",
+    "1.0",
     "+1",
     " 1",
     "1 ",
@@ -52,6 +54,7 @@ const BAD: [&str; 10] = [
     "0x1",
     "\u{661}",
     "00000000000000000003",
+    "10000000000000000000",
     "18446744073709551619",
 ];
 
@@ -327,7 +330,7 @@ fn read_that_fails_in_the_middle() {
         }
     }
     // Whole blocks alone, and with a part of the next. Blocks after the first are refused here. The program reads 32 at a time.
-    for blocks in [1, 31, 32, 33, 65] {
+    for blocks in [1, 31, 32, 33, 64, 65] {
         for part in [0, 1, 511] {
             let bytes = [&journal().repeat(blocks)[..], &vec![7; part]].concat();
             assert_eq!(run(&bytes, 3), IDLE);
