@@ -213,18 +213,18 @@ pub fn both(s: &mut Scheduler, call: Call) -> Reply {
     reply
 }
 
-/// An admission to group 0.
-pub fn admit(number: u64, reservation: u64) -> Call {
-    Call::Admit {
-        number,
-        group: 0,
-        reservation,
+/// Runs a record on both sides; an accepted start replaces the state.
+///
+/// # Panics
+///
+/// If its kind is no call's, and where something differs.
+pub fn step(s: &mut Scheduler, r: &Record) -> Reply {
+    if r.kind == kind::START {
+        let started = start(r.amount as u64, r.ticks as u64, r.overrun as u64);
+        *s = started.unwrap_or(*s);
+        return Reply::plain(started.err().unwrap_or(0));
     }
-}
-
-/// An admission of a best-effort thread.
-pub fn weigh(number: u64, weight: u64) -> Call {
-    Call::AdmitBestEffort { number, weight }
+    both(s, calls::recorded(r).expect("a call's record"))
 }
 
 /// Starts both sides. A refused start has a state of zeros.

@@ -2,10 +2,11 @@
 //! best-effort threads of every sort. States that are not sound are the hostile host's.
 
 use check::best_effort::quiet_call;
-use check::compare::{both, sound, start, Tally, KINDS};
+use check::compare::{sound, start, step, Tally, KINDS};
 use model::calls::Call;
 use model::rule::{Scheduler, METER_LIMIT, METER_MAX, NONE};
 use samples::random::{call, edge_value, sound_state, Rng};
+use samples::records::{admit, admit_weight, dispatch, report, wake, BLOCK};
 
 /// The answers of each call on a sound state.
 const ANSWERS: [&[u32]; 9] = [
@@ -122,52 +123,38 @@ fn from_the_start_state_with_idle_time() {
 fn a_full_list() {
     let mut s = start(100, 20_000, 0).unwrap();
     for n in 0..64 {
-        let admitted = Call::Admit {
-            number: 63 - n,
-            group: 0,
-            reservation: 15,
-        };
-        assert_eq!(both(&mut s, admitted).answer, 0);
+        assert_eq!(step(&mut s, &admit(63 - n, 0, 15)).answer, 0);
     }
     for n in 0..64 {
-        let reply = both(&mut s, Call::Dispatch);
+        let reply = step(&mut s, &dispatch());
         assert_eq!(
             (reply.thread, reply.slice, reply.before),
             (63 - n, 1_500, n)
         );
-        assert_eq!(both(&mut s, Call::Report { reason: 1, used: 0 }).answer, 0);
+        assert_eq!(step(&mut s, &report(BLOCK, 0)).answer, 0);
     }
-    let reply = both(&mut s, Call::Dispatch);
+    let reply = step(&mut s, &dispatch());
     assert_eq!((reply.thread, reply.before), (64, 64));
     for number in 0..64 {
-        assert_eq!(both(&mut s, Call::Wake { number }).answer, 0);
+        assert_eq!(step(&mut s, &wake(number)).answer, 0);
     }
-    assert_eq!(both(&mut s, Call::Dispatch).thread, 63);
+    assert_eq!(step(&mut s, &dispatch()).thread, 63);
 }
 
 /// The longest report from the last tick before the meter's limit, by each reason and of either kind of thread.
 #[test]
 fn the_end_of_the_meter() {
-    let reserved = Call::Admit {
-        number: 9,
-        group: 0,
-        reservation: 1_000,
-    };
-    let best_effort = Call::AdmitBestEffort {
-        number: 9,
-        weight: 1,
-    };
-    for admission in [reserved, best_effort] {
+    for admission in [admit(9, 0, 1_000), admit_weight(9, 1)] {
         let mut s = start(1_000, 1_000_000, 999).unwrap();
         s.meter = METER_LIMIT - 1;
-        assert_eq!(both(&mut s, admission).answer, 0);
-        assert_eq!(both(&mut s, Call::Dispatch).slice, 1_000_000);
+        assert_eq!(step(&mut s, &admission).answer, 0);
+        assert_eq!(step(&mut s, &dispatch()).slice, 1_000_000);
         for reason in 0..4 {
             let mut s = s;
-            let mut report = |used| both(&mut s, Call::Report { reason, used }).answer;
-            assert_eq!([report(1_001_000), report(1_000_999)], [13, 0]);
+            let mut used = |ticks| step(&mut s, &report(reason, ticks)).answer;
+            assert_eq!([used(1_001_000), used(1_000_999)], [13, 0]);
             assert_eq!(s.meter, METER_MAX - 1);
-            assert_eq!(both(&mut s, Call::Dispatch).answer, 15);
+            assert_eq!(step(&mut s, &dispatch()).answer, 15);
         }
     }
 }

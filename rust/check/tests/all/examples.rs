@@ -1,11 +1,9 @@
 //! The worked examples (`rust/samples/examples`, RULE 10.7) on the library and through the programs.
 
-use check::compare::{both, start, to_library, to_library_line, to_library_table};
+use check::compare::{self, to_library, to_library_line, to_library_table};
 use check::journal;
 use check::program::{answered, printed, Folder};
-use model::blocks::kind;
-use model::calls::recorded;
-use model::rule::{Reply, Scheduler};
+use model::rule::Scheduler;
 use mtr::numbers;
 use samples::examples::{self, Fact};
 
@@ -36,14 +34,7 @@ fn by_calls() {
     for example in examples::all() {
         let mut s = Scheduler::default();
         for (step, n) in example.steps.iter().zip(0..) {
-            let (name, r) = (example.name, &step.record);
-            let reply = if r.kind == kind::START {
-                let started = start(r.amount as u64, r.ticks as u64, r.overrun as u64);
-                s = started.unwrap_or(s);
-                Reply::plain(started.err().unwrap_or(0))
-            } else {
-                both(&mut s, recorded(r).unwrap())
-            };
+            let (name, reply) = (example.name, compare::step(&mut s, &step.record));
             let numbers = [reply.answer, reply.thread, reply.slice, reply.before];
             let [answer, thread, slice, before] = numbers;
             let line = format!("{n} {answer} {thread} {slice} {before}");

@@ -1,23 +1,16 @@
 //! That each term of the share guarantee, and each of its premises, is needed: stretches that exceed the limits without it. That the limits
 //! hold is a theorem.
 
-use check::compare::{admit, both, start, to_library, weigh};
-use model::calls::Call;
+use check::compare::{start, step, to_library};
 use model::rule::Scheduler;
 use mtr::numbers;
-
-fn change(number: u64, reservation: u64) -> Call {
-    Call::Change {
-        number,
-        reservation,
-    }
-}
+use samples::records::{admit, admit_weight, change, dispatch, report, wake, TICK};
 
 /// Dispatches, expects a thread and its slice, and reports.
 fn run(s: &mut Scheduler, thread: u32, slice: u32, reason: u64, used: u64) {
-    let reply = both(s, Call::Dispatch);
+    let reply = step(s, &dispatch());
     assert_eq!((reply.thread, reply.slice), (thread, slice));
-    assert_eq!(both(s, Call::Report { reason, used }).answer, 0);
+    assert_eq!(step(s, &report(reason, used)).answer, 0);
 }
 
 /// A thread that leaves takes its debt along: one that leaves late in every round and comes back takes its overruns from
@@ -27,14 +20,14 @@ fn the_first_limit_needs_the_overruns() {
     let (f, m, p, o) = (500, 10, 5_000, 9);
     let mut s = start(m, p, o).unwrap();
     for number in [1, 2] {
-        assert_eq!(both(&mut s, admit(number, 500)).answer, 0);
+        assert_eq!(step(&mut s, &admit(number, 0, 500)).answer, 0);
     }
     let limit = 2 * f * (1000 - f) * m + f * p;
     let rounds = limit / (f * o) + 1;
     for round in 1..=rounds {
         run(&mut s, 1, 5_000, 0, 5_000);
         run(&mut s, 2, 5_000, 3, 5_009);
-        assert_eq!(both(&mut s, admit(2, 500)).answer, 0);
+        assert_eq!(step(&mut s, &admit(2, 0, 500)).answer, 0);
         // The lag of the first thread is what it is owed: never anchored since the state after its admission.
         let owed = numbers::lag(to_library(&s), 1).result().unwrap() as u64;
         assert_eq!(owed, f * o * round);
@@ -49,17 +42,13 @@ fn the_second_limit_needs_the_overruns() {
     let (f, g, m) = (500, 500, 10);
     let mut s = start(m, 5_000, 9).unwrap();
     for number in [1, 2] {
-        assert_eq!(both(&mut s, admit(number, 500)).answer, 0);
+        assert_eq!(step(&mut s, &admit(number, 0, 500)).answer, 0);
     }
     run(&mut s, 1, 5_000, 1, 4_999);
-    assert_eq!(both(&mut s, Call::Dispatch).thread, 2);
-    assert_eq!(both(&mut s, Call::Wake { number: 1 }).answer, 0);
+    assert_eq!(step(&mut s, &dispatch()).thread, 2);
+    assert_eq!(step(&mut s, &wake(1)).answer, 0);
     // The stretch begins.
-    let late = Call::Report {
-        reason: 0,
-        used: 5_009,
-    };
-    assert_eq!(both(&mut s, late).answer, 0);
+    assert_eq!(step(&mut s, &report(TICK, 5_009)).answer, 0);
     run(&mut s, 1, 1, 0, 1);
     run(&mut s, 2, 4_991, 0, 5_000);
     let (had, second, overruns) = (1, 5_009 + 5_000, 9 + 9);
@@ -73,34 +62,33 @@ fn the_second_limit_needs_the_overruns() {
 fn the_first_limit_needs_the_interval() {
     for (p, o) in [(20_000, 0), (1, 0), (1_000_000, 0), (20_000, 99)] {
         let mut s = start(100, p, o).unwrap();
-        assert_eq!(both(&mut s, weigh(9, 1)).answer, 0);
-        assert_eq!(both(&mut s, Call::Dispatch).thread, 9);
-        assert_eq!(both(&mut s, admit(1, 1000)).answer, 0);
+        assert_eq!(step(&mut s, &admit_weight(9, 1)).answer, 0);
+        assert_eq!(step(&mut s, &dispatch()).thread, 9);
+        assert_eq!(step(&mut s, &admit(1, 0, 1000)).answer, 0);
         // The stretch begins. Its others' overruns are o.
         let used = p + o;
-        assert_eq!(both(&mut s, Call::Report { reason: 0, used }).answer, 0);
+        assert_eq!(step(&mut s, &report(TICK, used)).answer, 0);
         let owed = numbers::lag(to_library(&s), 1).result().unwrap() as u64;
         assert_eq!(owed, 1000 * p + 1000 * o);
-        assert_eq!(both(&mut s, Call::Dispatch).thread, 1);
+        assert_eq!(step(&mut s, &dispatch()).thread, 1);
     }
 
     let (f, m, p) = (500, 100, 20_000);
     let mut s = start(m, p, 0).unwrap();
     for (number, reservation) in [(2, 500), (1, 500)] {
-        assert_eq!(both(&mut s, admit(number, reservation)).answer, 0);
+        assert_eq!(step(&mut s, &admit(number, 0, reservation)).answer, 0);
     }
     run(&mut s, 2, 20_000, 1, 0);
     run(&mut s, 1, 20_000, 0, 20_000);
     run(&mut s, 1, 20_000, 0, 20_000);
     run(&mut s, 1, 10_000, 1, 9_999);
-    assert_eq!(both(&mut s, weigh(9, 16)).answer, 0);
-    assert_eq!(both(&mut s, Call::Dispatch).thread, 9);
+    assert_eq!(step(&mut s, &admit_weight(9, 16)).answer, 0);
+    assert_eq!(step(&mut s, &dispatch()).thread, 9);
     for number in [1, 2] {
-        assert_eq!(both(&mut s, Call::Wake { number }).answer, 0);
+        assert_eq!(step(&mut s, &wake(number)).answer, 0);
     }
     // The stretch begins.
-    let report = Call::Report { reason: 0, used: p };
-    assert_eq!(both(&mut s, report).answer, 0);
+    assert_eq!(step(&mut s, &report(TICK, p)).answer, 0);
     let mut sums = Sums {
         all: p,
         ..Sums::default()
@@ -143,13 +131,13 @@ impl Sums {
 fn two(f: u64, g: u64) -> Scheduler {
     let mut s = start(100, 20_000, 0).unwrap();
     for (number, reservation) in [(1, f), (2, g)] {
-        assert_eq!(both(&mut s, admit(number, reservation)).answer, 0);
+        assert_eq!(step(&mut s, &admit(number, 0, reservation)).answer, 0);
     }
     s
 }
 
 fn changed(s: &mut Scheduler, number: u64, reservation: u64) {
-    assert_eq!(both(s, change(number, reservation)).answer, 0);
+    assert_eq!(step(s, &change(number, reservation)).answer, 0);
 }
 
 /// It is not enough that the reservation of the first thread is the same at both ends: changed to 1 and back in every
