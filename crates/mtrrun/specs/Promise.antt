@@ -8,7 +8,8 @@ use mathlib.Core.List.{List}
 use mathlib.Core.Bool.{not, _&&_}
 use lib.ListN.{length, take}
 use Rattle.replay.specs.View.{seen}
-use Rattle.events.specs.Replay.{Progress, blocksIn, printedTo, leftBy, beginning}
+use Rattle.sector.specs.Places.{blocksIn}
+use Rattle.events.specs.Replay.{Progress, printedTo, leftBy, beginning}
 use Rattle.program.specs.Pieces.{isOver, Fetched, judgedOf, Pieces}
 use Rattle.mtrrun.specs.declared.Piece.{Piece}
 use Rattle.mtrrun.specs.declared.Done.{Done}

@@ -12,7 +12,7 @@ use lib.ListN.{length, take}
 use Rattle.text.specs.declared.Number.{Number}
 use Rattle.text.specs.declared.Number.the-variants.{Value}
 use Rattle.text.specs.Decimal.{linesOf, numberRefusal}
-use Rattle.events.specs.Replay.{blocksIn}
+use Rattle.sector.specs.Places.{blocksIn}
 use Rattle.events.specs.Why.{why}
 use Rattle.why.specs.declared.Search.{Search}
 use Rattle.why.specs.Search.{isIn, looked, lookOf, areaAfter}

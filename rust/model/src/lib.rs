@@ -13,6 +13,7 @@
 //! - [`calls`]: the calls as values, and the records that stand for them.
 //! - [`replay`]: what `mtrrun` prints for a journal.
 //! - [`why`]: what `mtrwhy` prints for a journal and a record's number.
+//! - [`usage`]: what `mtrsum` writes for a journal, and `mtrask` prints for that.
 //! - [`table`]: customers' own priority tables.
 
 #![forbid(unsafe_code)]
@@ -24,4 +25,5 @@ pub mod calls;
 pub mod replay;
 pub mod rule;
 pub mod table;
+pub mod usage;
 pub mod why;

@@ -1,6 +1,7 @@
 //! The model on the worked examples of docs/RULE.md, its layout, and its ways to make a call and to read a journal beside one another.
 //! That it gives the rule is compared elsewhere: `rust/check` asks it and the library the same.
 
+use std::io::Cursor;
 use std::mem::size_of;
 
 use model::accounts::Entry;
@@ -10,6 +11,7 @@ use model::calls::{apply, recorded, run, Call};
 use model::replay::{replay, replay_from, replay_from_with, replay_with};
 use model::rule::{Group, Reply, Scheduler, Thread, METER_LIMIT, METER_MAX, NONE};
 use model::table::{asked, given, standard, Line, Table};
+use model::usage::{self, Question};
 use model::why::{number, why, why_from, why_from_with};
 use samples::examples::{self, Fact};
 use samples::random::{any_record, blocking, call, journal, sound_state, Rng};
@@ -216,4 +218,55 @@ fn numbers() {
     ] {
         assert_eq!(number(text.as_bytes()), None, "{text:?}");
     }
+}
+
+/// The worked example of processor use: the counts, the summary and the answers, each in every way.
+#[test]
+fn use_of_the_processor() {
+    let example = examples::usage();
+    let journal = example.journal();
+    assert_eq!(replay(&journal), example.printed().as_bytes());
+    let charged: Vec<[u64; 64]> = example.blocks.iter().map(|b| b.charged).collect();
+    assert_eq!(usage::counts(&journal), Ok(charged.clone()));
+    let summary = usage::summary(&journal).unwrap();
+    let halves: Vec<u64> = charged.concat();
+    for (n, counts) in (0..).zip(halves.chunks(usage::COUNTS)) {
+        let area = &summary[BLOCK * n as usize..][..BLOCK];
+        assert_eq!(&usage::read(area, n).unwrap()[..], counts);
+    }
+    assert_eq!(summary.len(), 8 * BLOCK);
+    let mut streamed = Vec::new();
+    let refusal = usage::summary_from(Cursor::new(&journal), &mut streamed);
+    assert_eq!((refusal.unwrap(), &streamed), (None, &summary));
+
+    let questions: Vec<Question> = example.questions.iter().map(|(q, _)| *q).collect();
+    let answers = usage::ask_from(&summary[..], &questions).unwrap();
+    for (q, answer) in questions.iter().zip(&answers) {
+        assert_eq!(usage::ask(&summary, q), *answer, "{q:?}");
+        assert_eq!(usage::ask_journal(&journal, q), *answer, "{q:?}");
+    }
+    let printed = String::from_utf8(usage::lines(&answers)).unwrap();
+    assert_eq!(printed, example.answers());
+}
+
+/// A summary block byte by byte, and what each wrong byte gives.
+#[test]
+fn summary_block() {
+    let mut counts = [0; usage::COUNTS];
+    (counts[0], counts[31]) = (0x0102, 1 << 63);
+    let mut block = usage::write(1, &counts);
+    // The number is 1; count 0 stands at 8, count 31 at 256. a = 1 + 1 + 2 + 1 + 128 and
+    // b = 510 + 510 × 1 + 502 × 2 + 501 × 1 + 247 × 128, both mod 255.
+    let mut bytes = [0; BLOCK];
+    (bytes[0], bytes[8], bytes[9], bytes[263]) = (1, 2, 1, 128);
+    (bytes[510], bytes[511]) = (133, 226);
+    assert_eq!(block, bytes);
+    assert_eq!(usage::read(&block, 1), Ok(counts));
+    assert_eq!(usage::read(&block, 0), Err(19));
+    assert_eq!(usage::read(&block[..511], 1), Err(17));
+    block[511] ^= 1;
+    assert_eq!(usage::read(&block, 0), Err(18));
+    // 255 for 0 past the last count, which the check does not see.
+    bytes[264] = 255;
+    assert_eq!(usage::read(&bytes, 1), Err(19));
 }

@@ -2,7 +2,8 @@
 //!
 //! A text is a journal as `journal run` prints it: a record a line, and behind `#` the five numbers
 //! that `mtrrun` prints for it. A line that begins with `#=` says what is so after the record above it.
-//! `journal encode` takes the texts as they stand.
+//! `journal encode` takes the texts as they stand. The text of [`usage`] has facts of its own, among them
+//! the ends of its blocks, which `journal encode` takes for comments.
 
 use std::str::FromStr;
 
@@ -10,6 +11,7 @@ use model::accounts::Entry;
 use model::blocks::Record;
 use model::rule::{Scheduler, FREE, THREADS};
 use model::table::{standard, Line, Row, Table};
+use model::usage::Question;
 
 use crate::records;
 
@@ -77,12 +79,7 @@ impl Example {
                 let step = steps.last_mut().expect("a fact stands after a record");
                 step.facts.push(fact_of(fact.trim()));
             } else if !line.starts_with('#') && !line.is_empty() {
-                let (record, printed) = line.split_once('#').expect(line);
-                steps.push(Step {
-                    record: record_of(record),
-                    printed: printed.trim(),
-                    facts: Vec::new(),
-                });
+                steps.push(step_of(line));
             }
         }
         Example { name, text, steps }
@@ -135,6 +132,83 @@ impl Fact {
     }
 }
 
+/// The example of processor use. Its facts:
+/// - `block`: the next block begins here.
+/// - `charged 5 159`: at the start of this block, so many ticks to this thread; of threads not named, 0.
+/// - `ticks 5 0 1 = 0 159`: the question of thread 5 and blocks 0 and 1, and its line.
+pub struct Usage {
+    pub text: &'static str,
+    pub blocks: Vec<Part>,
+    /// The questions, and the line that `mtrask` prints for each.
+    pub questions: Vec<(Question, String)>,
+}
+
+/// A block of the example.
+pub struct Part {
+    pub steps: Vec<Step>,
+    /// The ticks charged to each thread number up to its start.
+    pub charged: [u64; THREADS],
+}
+
+/// The example of processor use: a journal with the ends of its blocks, and questions.
+pub fn usage() -> Usage {
+    let text = include_str!("../examples/usage.txt");
+    let part = || Part {
+        steps: Vec::new(),
+        charged: [0; THREADS],
+    };
+    let (mut block, mut blocks, mut questions) = (part(), Vec::new(), Vec::new());
+    for line in text.lines() {
+        if let Some(fact) = line.strip_prefix("#=") {
+            let words: Vec<&str> = fact.split_whitespace().collect();
+            match words[..] {
+                ["block"] => blocks.push(std::mem::replace(&mut block, part())),
+                ["charged", n, ticks] => block.charged[number::<usize>(n)] = number(ticks),
+                ["ticks", thread, first, second, "=", ..] => {
+                    let asked = Question {
+                        thread: number(thread),
+                        first: number(first),
+                        second: number(second),
+                    };
+                    questions.push((asked, words[5..].join(" ").replace(',', "")));
+                }
+                _ => panic!("no fact: {line}"),
+            }
+        } else if !line.starts_with('#') && !line.is_empty() {
+            block.steps.push(step_of(line));
+        }
+    }
+    blocks.push(block);
+    Usage {
+        text,
+        blocks,
+        questions,
+    }
+}
+
+impl Usage {
+    /// The journal, its blocks as the text ends them.
+    pub fn journal(&self) -> Vec<u8> {
+        let block = |(n, part): (u32, &Part)| {
+            let records: Vec<Record> = part.steps.iter().map(|step| step.record).collect();
+            records::block(n, &records)
+        };
+        (0..).zip(&self.blocks).flat_map(block).collect()
+    }
+
+    /// All that `mtrrun` prints.
+    pub fn printed(&self) -> String {
+        let steps = self.blocks.iter().flat_map(|part| &part.steps);
+        steps.map(|step| format!("{}\n", step.printed)).collect()
+    }
+
+    /// All that `mtrask` prints for its questions.
+    pub fn answers(&self) -> String {
+        let lines = self.questions.iter().map(|(_, line)| format!("{line}\n"));
+        lines.collect()
+    }
+}
+
 /// The threads in the order of the model's roster.
 pub fn roster(s: &Scheduler) -> Vec<u8> {
     let mut table = [Entry::default(); THREADS];
@@ -148,6 +222,15 @@ fn number<T: FromStr>(word: &str) -> T {
     plain
         .parse()
         .unwrap_or_else(|_| panic!("no number: {word}"))
+}
+
+fn step_of(line: &'static str) -> Step {
+    let (record, printed) = line.split_once('#').expect(line);
+    Step {
+        record: record_of(record),
+        printed: printed.trim(),
+        facts: Vec::new(),
+    }
 }
 
 fn fact_of(text: &'static str) -> Fact {

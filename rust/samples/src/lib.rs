@@ -2,7 +2,7 @@
 //!
 //! - [`records`]: records by hand, and journals of them.
 //! - [`examples`]: the worked examples, one text each, which every test of one reads.
-//! - [`random`]: generated states, calls, journals and tables.
+//! - [`random`]: generated states, calls, journals, summaries and tables.
 
 #![forbid(unsafe_code)]
 

@@ -60,6 +60,7 @@ pub mod answer {
     pub const NO_DISPATCH: u32 = 21;
     pub const ROW: u32 = 22;
     pub const PRIORITY: u32 = 23;
+    pub const QUESTION: u32 = 24;
 }
 
 #[repr(C)]

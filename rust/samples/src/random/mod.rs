@@ -1,4 +1,4 @@
-//! Generators of states, calls, journals and tables for tests.
+//! Generators of states, calls, journals, summaries and tables for tests.
 
 mod blocking;
 mod broken;
@@ -7,6 +7,7 @@ mod calls;
 mod hostile;
 mod journals;
 mod states;
+mod summaries;
 mod tables;
 
 use model::rule::{METER_LIMIT, METER_MAX, TAG_UNIT};
@@ -17,6 +18,7 @@ pub use calls::call;
 pub use hostile::hostile_state;
 pub use journals::{any_record, journal};
 pub use states::sound_state;
+pub use summaries::{any_question, damage_summary, SummaryDamage};
 pub use tables::{any_table, asked_priority, damaged_tables, usable_table};
 
 /// SplitMix64.
