@@ -1,12 +1,16 @@
 // mtrsum JOURNAL: writes the journal's summary to standard output, or the first refusal among its blocks and no summary. The journal is
 // read twice: before anything is written it is known that no block is refused, and no more than a piece of it is held.
 ghost use mathlib.Core.Path.{_≡_};
-ghost use Prim.Native.Nat.{_+_, _*_, _/_, min};
+ghost use mathlib.Core.List.{[], _∷_};
+ghost use mathlib.Core.Bool.{cond};
+ghost use Prim.Native.Nat.{min};
 ghost use lib.ListN.{length, take};
-ghost use Rattle.mtrsum.specs.Inner.{Judged, Reviewed, Sent, Summed};
+ghost use Rattle.text.specs.Decimal.{lineOf};
+ghost use Rattle.mtrsum.specs.Promise.{Judged, Reviewed, Sent, Summed, noSum, Concluded, Summarized, Served};
 use libc::STDERR_FILENO;
-use libc::STDOUT_FILENO;
+use program::Filled;
 use program::Opened;
+use program::Written;
 use sector::place::BLOCK;
 use usage::Usage;
 
@@ -15,39 +19,47 @@ const INPUT: usize = 32 * BLOCK;
 
 const OUTPUT: usize = 32 * usage::PAIR;
 
-// A piece that was judged: how many bytes of it, the first refusal among their blocks or 0, whether the file goes on; and what that comes
-// from: how many bytes were read, and whether the last read failed.
+// A piece of the first reading: how many bytes of it were judged, the first refusal among their blocks or 0, and whether the file goes on.
+// Then what that comes from: what was read.
 struct Look {
     read: usize,
     refusal: u32,
     more: bool,
-    got: usize,
-    failed: bool,
+    filled: Filled,
 }
 
-// The file: how many bytes were judged, the first refusal or 0, how many bytes the last piece had, and whether a read failed.
+// The first reading: how many bytes were judged, the first refusal or 0, and the last piece.
 struct Verdict {
     read: u64,
     refusal: u32,
-    got: usize,
-    failed: bool,
+    last: Filled,
 }
 
-// A piece that was run: how many bytes were wanted and how many were read, whether the last read failed, the first refusal or 0, how many
-// bytes its summary has, and what comes after it.
+// A piece of the second reading: how many bytes were wanted, whether they were read and none of their blocks is refused, whether their
+// summary was written too, and what comes after it. Then what that comes from: what was written, and what was read.
 struct Piece {
     want: usize,
-    got: usize,
-    failed: bool,
-    refusal: u32,
-    used: usize,
+    same: bool,
+    more: bool,
     usage: Usage,
+    written: Written,
+    filled: Filled,
 }
 
-// What was summed: how many bytes of the file, and what comes after them.
+// The second reading: how many bytes of the file have their summary written, whether every piece was what it was at the first, what comes
+// after them, and the last write.
 struct Sum {
     sent: u64,
+    same: bool,
     usage: Usage,
+    written: Written,
+}
+
+// How the program ended: the line that was written, whether the file was gone back to, and what was summed.
+struct Done {
+    line: Written,
+    again: bool,
+    sum: Sum,
 }
 
 // Reads the next blocks, the first of which stands at this place, and judges them.
@@ -56,14 +68,13 @@ fn judge_some(fd: i32, place: u64, input: &mut [u8]) -> Look
     ensures { λ r. ⌜ Judged (take (r .read) (now (input .exit))) place r ⌝ }
 {
     let filled = program::fill(fd, input);
-    let read = program::judged(filled.got, filled.failed);
+    let read = filled.judged();
     let refusal = usage::first_refusal(place, &input[..read]);
     Look {
         read: read,
         refusal: refusal,
         more: (refusal == 0) & (read == INPUT),
-        got: filled.got,
-        failed: filled.failed,
+        filled: filled,
     }
 }
 
@@ -75,24 +86,21 @@ fn judge(fd: i32) -> Verdict
     let mut input = [0u8; INPUT];
     let mut read: u64 = 0;
     let mut refusal: u32 = 0;
-    let mut got: usize = 0;
-    let mut failed = false;
+    let mut last = Filled::none();
     let mut more = true;
     let mut pieces: u64 = 562949953421312;
     while pieces > 0 && more {
         let look = judge_some(fd, read / 512, &mut input);
         read += look.read as u64;
         refusal = look.refusal;
-        got = look.got;
-        failed = look.failed;
+        last = look.filled;
         more = look.more;
         pieces -= 1;
     }
     Verdict {
         read: read,
         refusal: refusal,
-        got: got,
-        failed: failed,
+        last: last,
     }
 }
 
@@ -104,26 +112,6 @@ fn wanted(left: u64) -> usize
         return left as usize;
     }
     INPUT
-}
-
-// Reads the next blocks, runs them, and puts their summary blocks into the area.
-fn sum_some(fd: i32, usage: Usage, left: u64, input: &mut [u8], out: &mut [u8]) -> Piece
-    requires { ⌜ (length (now input) ≡ 16384) × (length (now out) ≡ 32768) ⌝ }
-    ensures { λ r. ⌜ Sent (take (r .got) (now (input .exit))) left usage (now (out .entry)) (now (out .exit)) r ⌝ }
-{
-    let want = wanted(left);
-    let filled = program::fill(fd, &mut input[..want]);
-    let got = filled.got;
-    let ran = usage.run(&input[..got], out);
-    let after = ran.usage;
-    Piece {
-        want: want,
-        got: got,
-        failed: filled.failed,
-        refusal: ran.refusal,
-        used: usage::PAIR * ((got + 511) / BLOCK),
-        usage: after,
-    }
 }
 
 // Says why the journal is not what it was: a read failed, or it was changed.
@@ -138,10 +126,45 @@ fn say_other(failed: bool) {
     );
 }
 
+// Writes the summary of a piece that is what it was, the first `used` bytes of the area.
+fn send(out: &[u8], used: usize, same: bool, failed: bool) -> Written
+    ensures { λ r. ⌜ r .handed ≡ cond same (min used (length (now (out .entry)))) 0 ⌝ }
+{
+    if same {
+        return program::write(out, used, b"mtrsum: standard output");
+    }
+    say_other(failed);
+    Written::none()
+}
+
+// Reads the next blocks, of so many bytes that are left, runs them and writes their summary.
+fn sum_some(fd: i32, usage: Usage, left: u64, input: &mut [u8], out: &mut [u8]) -> Piece
+    requires { ⌜ (length (now input) ≡ 16384) × (length (now out) ≡ 32768) ⌝ }
+    ensures { λ r. ⌜ Sent (take (r .filled .got) (now (input .exit))) left usage (now (out .exit)) r ⌝ }
+{
+    let want = wanted(left);
+    let filled = program::fill(fd, &mut input[..want]);
+    let got = filled.count();
+    let ran = usage.run(&input[..got], out);
+    let after = ran.usage;
+    let refusal = ran.refusal;
+    let same = (got == want) & (refusal == 0);
+    let used = usage::PAIR * ((got + 511) / BLOCK);
+    let written = send(&out[..], used, same, filled.has_failed());
+    Piece {
+        want: want,
+        same: same,
+        more: same & written.is_done(),
+        usage: after,
+        written: written,
+        filled: filled,
+    }
+}
+
 // Writes the summary of the first `size` bytes of the file, piece by piece, up to a write that fails or a piece that is not what it was.
-// What was written by then is the front of the summary. Answers how many bytes of the file were summed.
+// What was written by then is a front of the summary.
 fn write_summary(fd: i32, size: u64) -> Sum
-    ensures { λ r. ⌜ Summed r ⌝ }
+    ensures { λ r. ⌜ Summed size r ⌝ }
 {
     let mut input = [0u8; INPUT];
     let mut out = [0u8; OUTPUT];
@@ -150,28 +173,13 @@ fn write_summary(fd: i32, size: u64) -> Sum
     let mut left = size;
     while left > 0 {
         let piece = sum_some(fd, usage, left, &mut input, &mut out);
-        let failed = piece.failed;
-        if piece.got != piece.want {
-            say_other(failed);
+        if !piece.more {
+            let written = piece.written;
             return Sum {
                 sent: sent,
+                same: piece.same,
                 usage: usage,
-            };
-        }
-        if piece.refusal != 0 {
-            say_other(false);
-            return Sum {
-                sent: sent,
-                usage: usage,
-            };
-        }
-        let used = piece.used;
-        let written = io::write_all(STDOUT_FILENO, &out[..used]);
-        if !written {
-            program::say_unwritten(false, b"mtrsum: standard output");
-            return Sum {
-                sent: sent,
-                usage: usage,
+                written: written,
             };
         }
         usage = piece.usage;
@@ -180,17 +188,33 @@ fn write_summary(fd: i32, size: u64) -> Sum
     }
     Sum {
         sent: sent,
+        same: true,
         usage: usage,
+        written: Written::none(),
+    }
+}
+
+// Where nothing is summed.
+fn none() -> Sum
+    ensures { λ r. ⌜ r ≡ noSum ⌝ }
+{
+    let usage = Usage::new();
+    Sum {
+        sent: 0,
+        same: true,
+        usage: usage,
+        written: Written::none(),
     }
 }
 
 // Writes the line of a refusal.
-fn tell(refusal: u32) {
+fn tell(refusal: u32) -> Written
+    ensures { λ r. ⌜ r .handed ≡ length (lineOf (refusal ∷ [])) ⌝ }
+{
     let mut out = [0u8; 21];
     let line = [refusal as u64];
     let end = text::put_line(&mut out, 0, &line);
-    let written = io::write_all(STDOUT_FILENO, &out[..end]);
-    program::say_unwritten(written, b"mtrsum: standard output");
+    program::write(&out, end, b"mtrsum: standard output")
 }
 
 // Goes to the file's start. A pipe has none to go back to.
@@ -198,41 +222,86 @@ fn rewind(fd: i32) -> bool {
     libc::lseek(fd, 0, libc::SEEK_SET) == 0
 }
 
-// A file that can't be read twice, or of which nothing can be read, is a bad argument; a read that fails further on is said.
-fn summarize(fd: i32) {
-    if !rewind(fd) {
-        program::refuse(b"mtrsum: standard output");
-        return;
+// After the first reading: the refusal's line, or the summary. A file of which nothing can be read is a bad argument; a read that fails
+// further on is said.
+fn conclude(fd: i32, verdict: Verdict) -> Done
+    ensures { λ r. ⌜ Concluded verdict r ⌝ }
+{
+    let refusal = verdict.refusal;
+    if refusal != 0 {
+        return Done {
+            line: tell(refusal),
+            again: false,
+            sum: none(),
+        };
     }
-    let verdict = judge(fd);
-    if verdict.refusal != 0 {
-        tell(verdict.refusal);
-        return;
-    }
-    if verdict.failed {
-        if (verdict.read == 0) & (verdict.got == 0) {
-            program::refuse(b"mtrsum: standard output");
-            return;
+    let last = verdict.last;
+    if last.has_failed() {
+        if (verdict.read == 0) & (last.count() == 0) {
+            return Done {
+                line: program::refuse(b"mtrsum: standard output"),
+                again: false,
+                sum: none(),
+            };
         }
         os::fail(b"mtrsum: journal");
-        return;
+        return Done {
+            line: Written::none(),
+            again: false,
+            sum: none(),
+        };
     }
-    if !rewind(fd) {
-        os::fail(b"mtrsum: journal");
-        return;
+    if rewind(fd) {
+        return Done {
+            line: Written::none(),
+            again: true,
+            sum: write_summary(fd, verdict.read),
+        };
     }
-    write_summary(fd, verdict.read);
+    os::fail(b"mtrsum: journal");
+    Done {
+        line: Written::none(),
+        again: false,
+        sum: none(),
+    }
+}
+
+// Reads the file twice, where that can be done. One that has no start to go back to is a bad argument.
+fn summarize(fd: i32, rewound: bool) -> Done
+    ensures { λ r. ⌜ Summarized rewound r ⌝ }
+{
+    if rewound {
+        let verdict = judge(fd);
+        return conclude(fd, verdict);
+    }
+    Done {
+        line: program::refuse(b"mtrsum: standard output"),
+        again: false,
+        sum: none(),
+    }
+}
+
+// Serves the journal that was opened.
+fn serve(opened: Opened) -> Done
+    ensures { λ r. ⌜ Served opened r ⌝ }
+{
+    let Opened::File(fd) = opened else {
+        return Done {
+            line: program::refuse(b"mtrsum: standard output"),
+            again: false,
+            sum: none(),
+        };
+    };
+    let done = summarize(fd, rewind(fd));
+    libc::close(fd);
+    done
 }
 
 fn main() {
-    if !program::given(1) {
-        program::refuse(b"mtrsum: standard output");
+    if program::given(1) {
+        let opened = program::open(1);
+        serve(opened);
         return;
     }
-    let Opened::File(fd) = program::open(1) else {
-        program::refuse(b"mtrsum: standard output");
-        return;
-    };
-    summarize(fd);
-    libc::close(fd);
+    program::refuse(b"mtrsum: standard output");
 }

@@ -1,10 +1,8 @@
--- `tell` is safe: the line of a refusal has at most 21 bytes.
-use mathlib.Core.Path.{_≡_, sym}
+-- `tell` meets its contract: the line of a refusal has at most 21 bytes, so that all of it is written.
+use mathlib.Core.Path.{_≡_}
 use mathlib.Core.List.{[], _∷_}
-use Prim.Native.Nat.{_≤_}
 use native.Mathlib.Omega.{arith}
 use lib.ListN.{length, replicate}
-use lib.Seq.{length-take-le}
 use Rattle.text.specs.Decimal.{lineOf}
 use Rattle.text.proofs.Lines.{line-one}
 use Rattle.text.proofs.Writing.{put}
@@ -21,36 +19,24 @@ slice-aggregate-put-line-2 c = search needs
 put-line-requires : tie.Need-put-line-requires
 put-line-requires c κs = search needs
 
--- the line has room
-module _ (c : tie.After-put-line) where
-  long : length (c .put-line .last .0) ≡ 21
-  long = c .put-line .kept .0
+slice-aggregate-write : tie.Need-slice-aggregate-write
+slice-aggregate-write c = search needs
 
-  end-most : c .put-line .result ≤ 21
-  end-most =
-      let n = c .before .before .before .args .refusal in
-      (put (replicate 21 0) 0 (lineOf (n ∷ [])) 21 (c .put-line .last .0) (c .put-line .result)
-      (line-one n (omega (arith, c .before .before .before .fits .refusal .fits))) (omega arith)
-      (c .put-line .ensures .0) (c .put-line .ensures .1)) .within
+slice-aggregate-write-2 : tie.Need-slice-aggregate-write-2
+slice-aggregate-write-2 c = search needs
 
-array-share-prefix-out : tie.Need-array-share-prefix-out
-array-share-prefix-out c = omega (arith, end-most (c .before))
-
-slice-aggregate-write-all : tie.Need-slice-aggregate-write-all
-slice-aggregate-write-all c =
-    let e = c .before .before in sym (length-take-le (e .put-line .result) (e .put-line .last .0) (omega (arith, end-most e, long e)))
-
-write-all-requires : tie.Need-write-all-requires
-write-all-requires c κs = search needs
-
-slice-aggregate-say-unwritten : tie.Need-slice-aggregate-say-unwritten
-slice-aggregate-say-unwritten c = search needs
-
-say-unwritten-requires : tie.Need-say-unwritten-requires
-say-unwritten-requires c κs = search needs
+write-requires : tie.Need-write-requires
+write-requires c κs = search needs
 
 returns : tie.Need-returns
-returns c = search needs
+returns c =
+    let e = c .before .before .before .before in
+    let start = e .before .before .before in
+    let n = start .args .refusal in
+    let long : length (e .put-line .last .0) ≡ 21 = e .put-line .kept .0 in
+    let w = put (replicate 21 0) 0 (lineOf (n ∷ [])) 21 (e .put-line .last .0) (e .put-line .result)
+    (line-one n (omega (arith, start .fits .refusal .fits))) (omega arith) (e .put-line .ensures .0) (e .put-line .ensures .1) in
+    omega (arith, c .write .ensures, w .ends, w .within, long)
 
 pub tell-spec : {M : Type 1} → statement M
 tell-spec =
@@ -59,9 +45,7 @@ tell-spec =
     slice-aggregate-put-line
     slice-aggregate-put-line-2
     put-line-requires
-    array-share-prefix-out
-    slice-aggregate-write-all
-    write-all-requires
-    slice-aggregate-say-unwritten
-    say-unwritten-requires
+    slice-aggregate-write
+    slice-aggregate-write-2
+    write-requires
     returns)
