@@ -1,9 +1,9 @@
--- The paper's listing as block 0, with an empty block 1: from block 0 to block 1 thread 5 is charged 20000 + 12000 + 18000 ticks and thread 7
--- 10000; refused reports charge nobody. Bad questions: past the end, reversed, thread 64.
-use Prim.Native.Nat.{ℕ}
+-- The table of processor use, computed.
 use mathlib.Core.Path.{_≡_, refl}
-use mathlib.Core.List.{List, [], _∷_, _++_, map}
+use mathlib.Core.Bool.{true}
 use Rattle.base.specs.Same.{same}
+use Rattle.base.specs.Examples.{agree}
+use Rattle.sector.specs.Places.{nextPlace, blocksIn}
 use Rattle.sector.specs.Seal.{sums, isSealed}
 use Rattle.record.specs.Record.{usedBy, hasForm}
 use Rattle.block.specs.Block.{blockOf, bodyOf, partsOf, readOf, isBlock, recordsIn, allForm}
@@ -11,38 +11,30 @@ use Rattle.rule.specs.Refusals.{startRefusal}
 use Rattle.rule.specs.Rule.{startReply}
 use Rattle.rule.specs.Requests.{requestOf, startOn, served, haltedBy}
 use Rattle.rule.proofs.Computes.{computes}
-use Rattle.sector.specs.Places.{nextPlace, blocksIn}
 use Rattle.events.specs.Replay.{replyTo, after, afterAll, readAt, isRead, onward, blockLeft, leftBy, beginning}
-use Rattle.examples.specs.Table.{listing}
 use Rattle.events.specs.Events.{eventsOf, blockEvents, eventsTo, events}
 use Rattle.events.specs.Deeds.{isCall, does, runs, isReport, charges}
-use Rattle.summary.specs.declared.questions.Question.{Question}
-use Rattle.summary.specs.Questions.{answer}
-use Rattle.usage.specs.Usage.{chargedBy, ticksIn, firstRefusal, eventsBetween, usageOf}
-
-unfoldable pub journal : List ℕ
-journal = blockOf 0 listing ++ blockOf 1 []
-
-abbrev ask : ℕ → ℕ → ℕ → Question
-ask thread first second = record { thread = thread; first = first; second = second }
+use Rattle.summary.specs.Words.{digits, wordsOf}
+use Rattle.summary.specs.Block.{bodyOf as countBody, summaryBlock}
+use Rattle.usage.specs.Usage.{chargedBy, ticksIn, countAt, firstRefusal, eventsBetween, usageOf}
+use Rattle.examples.specs.Usage.{began, again, used, asked, usageTable}
 
 unfoldable parts : Unit {0}
 unfolding same sums isSealed usedBy hasForm blockOf bodyOf partsOf readOf isBlock recordsIn allForm startRefusal startReply requestOf
 parts = tt
 
 unfoldable replays : Unit {0}
-unfolding startOn served haltedBy replyTo after afterAll readAt isRead nextPlace onward blockLeft leftBy blocksIn beginning listing
+unfolding startOn served haltedBy replyTo after afterAll readAt isRead nextPlace onward blockLeft leftBy blocksIn beginning
 replays = tt
 
 unfoldable counted : Unit {0}
-unfolding eventsOf blockEvents eventsTo events isCall does runs isReport charges chargedBy ticksIn
+unfolding eventsOf blockEvents eventsTo events isCall does runs isReport charges chargedBy ticksIn countAt firstRefusal eventsBetween usageOf
 counted = tt
 
-pub listing-usage : map (usageOf journal) (ask 5 0 1 ∷ ask 7 0 1 ∷ ask 5 1 1 ∷ ask 6 0 1 ∷ ask 5 1 2 ∷ ask 5 1 0 ∷ ask 64 0 1 ∷ [])
-    ≡ answer 0 50000 ∷ answer 0 10000 ∷ answer 0 0 ∷ answer 0 0 ∷ answer 24 0 ∷ answer 24 0 ∷ answer 24 0 ∷ []
-unfolding journal computes parts replays counted eventsBetween usageOf
-listing-usage = refl
+unfoldable written : Unit {0}
+unfolding digits wordsOf countBody summaryBlock began again used asked
+written = tt
 
-pub listing-read : firstRefusal (events journal) ≡ 0
-unfolding journal computes parts replays counted firstRefusal
-listing-read = refl
+pub usage-holds : agree usageTable ≡ true
+unfolding computes parts replays counted written agree usageTable
+usage-holds = refl
