@@ -8,6 +8,7 @@ use model::why::why_from_with;
 use samples::random::Rng;
 use std::ffi::{OsStr, OsString};
 use std::fs::File;
+use std::io::Write;
 use std::path::{Path, PathBuf};
 use std::process::Command;
 use std::time::Instant;
@@ -28,43 +29,48 @@ fn call(state: &Scheduler, rng: &mut Rng, threads: u64) -> Call {
     Call::Dispatch
 }
 
-/// A journal of so many records, and the number of its last dispatch: a start, the admissions, then dispatches, reports and wakes, all
-/// accepted.
-fn journal(threads: u64, records: usize) -> (Vec<u8>, u64) {
+/// Writes a journal of so many records, and answers the number of its last dispatch: a start, the admissions, then dispatches, reports and
+/// wakes, all accepted.
+pub fn journal(threads: u64, records: u64, out: &mut dyn Write) -> u64 {
     let mut rng = Rng::new(threads);
     let mut state = Scheduler::start(10, 5000, 0).unwrap();
-    let mut list: Vec<Record> = vec![Record {
-        kind: 8,
+    let start = Record {
+        kind: kind::START,
         amount: 10,
         ticks: 5000,
         ..Record::default()
-    }];
-    for n in 0..threads {
-        let admit = Call::Admit {
-            number: n,
-            group: 0,
-            reservation: 1000 / threads,
-        };
-        assert_eq!(apply(&mut state, admit).answer, 0);
-        list.push(record(admit));
+    };
+    let (mut part, mut last) = (Vec::new(), 0);
+    for number in 0..records {
+        part.push(if number == 0 {
+            start
+        } else {
+            let next = match number.checked_sub(1).filter(|&n| n < threads) {
+                Some(number) => Call::Admit {
+                    number,
+                    group: 0,
+                    reservation: 1000 / threads,
+                },
+                None => call(&state, &mut rng, threads),
+            };
+            assert_eq!(apply(&mut state, next).answer, 0);
+            if next == Call::Dispatch {
+                last = number;
+            }
+            record(next)
+        });
+        if part.len() == 31 || number + 1 == records {
+            let mut area = [0; 512];
+            assert_eq!(write_block(&mut area, (number / 31) as u32, &part), 0);
+            out.write_all(&area).unwrap();
+            part.clear();
+        }
     }
-    while list.len() < records {
-        let next = call(&state, &mut rng, threads);
-        assert_eq!(apply(&mut state, next).answer, 0);
-        list.push(record(next));
-    }
-    let mut bytes = Vec::new();
-    for (number, part) in list.chunks(31).enumerate() {
-        let mut area = [0; 512];
-        assert_eq!(write_block(&mut area, number as u32, part), 0);
-        bytes.extend(area);
-    }
-    let last = list.iter().rposition(|r| r.kind == kind::DISPATCH);
-    (bytes, last.unwrap() as u64)
+    last
 }
 
 /// Seconds that a program takes with these arguments, from one file to the other.
-fn seconds(program: &Path, args: &[&OsStr], input: &Path, output: &Path) -> f64 {
+pub fn seconds(program: &Path, args: &[&OsStr], input: &Path, output: &Path) -> f64 {
     let begin = Instant::now();
     let status = Command::new(program)
         .args(args)
@@ -76,7 +82,7 @@ fn seconds(program: &Path, args: &[&OsStr], input: &Path, output: &Path) -> f64 
     begin.elapsed().as_secs_f64()
 }
 
-fn median(mut numbers: Vec<f64>) -> f64 {
+pub fn median(mut numbers: Vec<f64>) -> f64 {
     numbers.sort_by(f64::total_cmp);
     numbers[numbers.len() / 2]
 }
@@ -91,7 +97,7 @@ struct Times {
 }
 
 /// One of the times divided by another, round by round.
-fn ratio(above: &[f64], below: &[f64]) -> f64 {
+pub fn ratio(above: &[f64], below: &[f64]) -> f64 {
     median(above.iter().zip(below).map(|(a, b)| a / b).collect())
 }
 
@@ -139,8 +145,9 @@ pub fn print() {
         (64, 1_000_000),
         (64, 500_000),
     ] {
-        let (journal, asked) = journal(threads, records);
-        let t = rounds(&work, &journal, asked);
+        let mut bytes = Vec::new();
+        let asked = journal(threads, records, &mut bytes);
+        let t = rounds(&work, &bytes, asked);
         println!(
             "{threads:7}  {records:8}  {}   {:15.2}  {:14.2}  {:11.2}",
             [&t.mtrrun, &t.replay, &t.mtrwhy, &t.why]

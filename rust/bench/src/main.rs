@@ -4,6 +4,8 @@
 //! bench               every row, as ratios (bench.sh)
 //! bench one CALL N    each accepted case of a call N times (callgrind.sh)
 //! bench journals      the programs mtrrun and mtrwhy beside the model (after rt check mtrrun mtrwhy)
+//! bench usage         the programs mtrsum and mtrask beside mtrrun, the model and plain reading
+//! bench long          the same on a journal of 1 GiB, and the memory that they hold: about 6 GB in the folder for temporary files
 //! bench calls         the names that `bench one` takes
 //! ```
 
@@ -13,6 +15,7 @@ mod plain;
 mod rounds;
 mod states;
 mod times;
+mod usage;
 
 use std::process::ExitCode;
 
@@ -22,6 +25,8 @@ fn main() -> ExitCode {
     match words[..] {
         [] => times::print(),
         ["journals"] => journals::print(),
+        ["usage"] => usage::print(),
+        ["long"] => usage::long(),
         ["calls"] => println!("{}", cases::CALLS.join("\n")),
         ["one", call, n] if cases::CALLS.contains(&call) => match n.parse() {
             Ok(n) => cases::run(call, n),
@@ -31,7 +36,7 @@ fn main() -> ExitCode {
             }
         },
         _ => {
-            eprintln!("usage: bench | bench journals | bench calls | bench one CALL N");
+            eprintln!("usage: bench | bench journals | bench usage | bench long | bench calls | bench one CALL N");
             return ExitCode::FAILURE;
         }
     }
