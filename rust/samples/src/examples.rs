@@ -2,8 +2,7 @@
 //!
 //! A text is a journal as `journal run` prints it: a record a line, and behind `#` the five numbers
 //! that `mtrrun` prints for it. A line that begins with `#=` says what is so after the record above it.
-//! `journal encode` takes the texts as they stand. The text of [`usage`] has facts of its own, among them
-//! the ends of its blocks, which `journal encode` takes for comments.
+//! `journal encode` takes the texts as they stand. The text of [`usage`] has blocks and facts of its own.
 
 use std::str::FromStr;
 
@@ -132,8 +131,7 @@ impl Fact {
     }
 }
 
-/// The example of processor use. Its facts:
-/// - `block`: the next block begins here.
+/// The example of processor use. A line `block 1` begins a block, and its facts are:
 /// - `charged 5 159`: at the start of this block, so many ticks to this thread; of threads not named, 0.
 /// - `ticks 5 0 1 = 0 159`: the question of thread 5 and blocks 0 and 1, and its line.
 pub struct Usage {
@@ -157,13 +155,15 @@ pub fn usage() -> Usage {
         steps: Vec::new(),
         charged: [0; THREADS],
     };
-    let (mut block, mut blocks, mut questions) = (part(), Vec::new(), Vec::new());
+    let (mut blocks, mut questions): (Vec<Part>, Vec<_>) = (Vec::new(), Vec::new());
     for line in text.lines() {
         if let Some(fact) = line.strip_prefix("#=") {
             let words: Vec<&str> = fact.split_whitespace().collect();
             match words[..] {
-                ["block"] => blocks.push(std::mem::replace(&mut block, part())),
-                ["charged", n, ticks] => block.charged[number::<usize>(n)] = number(ticks),
+                ["charged", n, ticks] => {
+                    let block = blocks.last_mut().expect("a count stands in a block");
+                    block.charged[number::<usize>(n)] = number(ticks);
+                }
                 ["ticks", thread, first, second, "=", ..] => {
                     let asked = Question {
                         thread: number(thread),
@@ -174,11 +174,14 @@ pub fn usage() -> Usage {
                 }
                 _ => panic!("no fact: {line}"),
             }
+        } else if let Some(place) = line.strip_prefix("block ") {
+            assert_eq!(number::<usize>(place), blocks.len());
+            blocks.push(part());
         } else if !line.starts_with('#') && !line.is_empty() {
+            let block = blocks.last_mut().expect("a record stands in a block");
             block.steps.push(step_of(line));
         }
     }
-    blocks.push(block);
     Usage {
         text,
         blocks,
