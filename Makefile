@@ -6,7 +6,7 @@
 help: ## this list
 	@sed -n 's/^\([a-z]*\):.*## /\1	/p' Makefile | while IFS='	' read -r name text; do printf '  make %-14s%s\n' "$$name" "$$text"; done
 
-check: ## prove every crate that changed, and run mtrrun and mtrwhy on their examples
+check: ## prove every crate that changed, and run the programs on their examples
 	rt check
 
 library: ## prove and build the static library, target/staticlib/libabi.a
@@ -32,7 +32,7 @@ fmt: ## rt fmt and cargo fmt
 target/staticlib/libabi.a:
 	rt staticlib abi
 
-test: target/staticlib/libabi.a ## the Rust tests (after make check: some run mtrrun and mtrwhy)
+test: target/staticlib/libabi.a ## the Rust tests (after make check: some run the programs)
 	cargo test --offline --release
 
 header: ## write include/mtr.h and rust/mtr/src/raw.rs from the Rattle sources

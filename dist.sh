@@ -1,7 +1,7 @@
 #!/bin/sh
 # Fills a folder that a firmware project can vendor: the static library and its header, with files for pkg-config and CMake; the Rust crate;
-# mtrrun and mtrwhy, with their manual pages, and journal for the bench; the example hosts and a customer's table of priorities; what was
-# proved; VERSION, KIT and SHA256SUMS.
+# mtrrun, mtrwhy, mtrsum and mtrask, with their manual pages, and journal for the bench; the example hosts and a customer's table of
+# priorities; what was proved; VERSION, KIT and SHA256SUMS.
 #   ./dist.sh [--no-build] [FOLDER]     FOLDER is dist/ if none is given; an earlier one is replaced
 # --no-build takes what stands in target/ as it is instead of proving and building it. PROVED.md cites the gate only for the commit and the
 # files that it tested. The revision is git's, or $REVISION if it is set.
@@ -44,7 +44,7 @@ if [ "$build" = yes ]; then
     cargo build --quiet --offline --release -p journal || fail "journal can't be built"
 fi
 archive=target/staticlib/libabi.a
-for file in "$archive" target/bin/mtrrun target/bin/mtrwhy target/cargo/release/journal; do
+for file in "$archive" target/bin/mtrrun target/bin/mtrwhy target/bin/mtrsum target/bin/mtrask target/cargo/release/journal; do
     [ -f "$file" ] || fail "$file is missing: run ./dist.sh without --no-build"
 done
 needs=$(nm -u "$archive") || fail "nm can't read $archive"
@@ -73,8 +73,8 @@ package='/^\[/ { tests = /dev-dependencies/ || /^\[\[(test|example|bench)\]\]/ }
         mkdir -p "$new/bin" "$new/share/man/man1" "$new/lib/pkgconfig" "$new/lib/cmake/mtr" &&
         mkdir -p "$new/include" "$new/rust" "$new/examples/host/rust" &&
         cp "$archive" "$new/lib/libmtr.a" &&
-        cp target/bin/mtrrun target/bin/mtrwhy target/cargo/release/journal "$new/bin/" &&
-        cp docs/mtrrun.1 docs/mtrwhy.1 "$new/share/man/man1/" &&
+        cp target/bin/mtrrun target/bin/mtrwhy target/bin/mtrsum target/bin/mtrask target/cargo/release/journal "$new/bin/" &&
+        cp docs/mtrrun.1 docs/mtrwhy.1 docs/mtrsum.1 docs/mtrask.1 "$new/share/man/man1/" &&
         cp include/mtr.h "$new/include/mtr.h" &&
         cp docs/RULE.md "$new/RULE.md" &&
         cp -R rust/mtr/build.rs rust/mtr/src "$new/rust/" &&
@@ -170,8 +170,8 @@ fi
 | gate | $gate |
 | library | sha256 $(sha256sum <"$new/lib/libmtr.a" | cut -d ' ' -f 1) |
 
-\`lib/libmtr.a\` is what the kit wrote after its checker had accepted every exported function and everything below it; \`bin/mtrrun\` and
-\`bin/mtrwhy\` are what it wrote of the programs. The gate checks all proofs from nothing, tries edits that must be refused, and runs the
+\`lib/libmtr.a\` is what the kit wrote after its checker had accepted every exported function and everything below it; \`bin/mtrrun\`,
+\`bin/mtrwhy\`, \`bin/mtrsum\` and \`bin/mtrask\` are what it wrote of the programs. The gate checks all proofs from nothing, tries edits that must be refused, and runs the
 tests; its last line counts what passed. What follows says what was proved, by the names of the definitions and theorems in the sources of
 this commit, and what was not.
 END
@@ -187,6 +187,7 @@ Commit $revision, $kit.
     rust/            the crate \`mtr\`: the same with Rust types (no_std), and the declarations in its module raw
     bin/mtrrun       replays a journal (share/man/man1/mtrrun.1)
     bin/mtrwhy       tells from a journal why a thread had the processor (share/man/man1/mtrwhy.1)
+    bin/mtrsum       writes a journal's summary, bin/mtrask answers from it: processor use (share/man/man1/mtrsum.1, mtrask.1)
     bin/journal      journals as text, figures and pictures; a customer's table of priorities checked
     examples/        host/: a controller's main loop, in C and in Rust; priorities/: a customer's table of priorities
     RULE.md          the rule whole, in numbered sections
@@ -230,6 +231,11 @@ The example host, and its journal replayed:
 Why the thread of its dispatch at record N had the processor:
 
     bin/mtrwhy /tmp/journal.blocks N
+
+The ticks that thread 0 was charged in its first two blocks:
+
+    bin/mtrsum /tmp/journal.blocks >/tmp/journal.sum
+    bin/mtrask /tmp/journal.sum 0 0 2
 
 A customer's table of priorities: what each has under it, beside the standard, or what is wrong with it and in which line:
 

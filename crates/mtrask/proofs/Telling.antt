@@ -14,7 +14,7 @@ use Rattle.text.specs.Inner.{Wrote}
 use Rattle.text.proofs.Writing.{nothing, further, looser, put, two-most, text-append, one-line}
 use Rattle.summary.specs.declared.questions.Answer.{Answer}
 use Rattle.summary.specs.Questions.{answer}
-use Rattle.mtrask.specs.Inner.{numbersOf, answerText}
+use Rattle.mtrask.specs.Promise.{numbersOf, answerText}
 
 refused-line : (a : Answer) → (a .code ≡ 0 → ⊥) → lineOf (a .code ∷ []) ≡ linesOf (numbersOf a ∷ [])
 unfolding numbersOf
@@ -27,19 +27,22 @@ told-line a z = sym (one-line (0 ∷ a .ticks ∷ [])) ∙ ap (λ (b : Bool). li
     (sym (eq-eqb (a .code) 0 z))
 
 module _ (o : List ℕ) (at : ℕ) (a : Answer) (out : List ℕ) (used : ℕ) (room : at + 42 ≤ length o) where
-  pub put-refused : (a .code ≡ 0 → ⊥) → a .code < 2 ^ 64 → used ≡ next o at (lineOf (a .code ∷ []))
-      → out ≡ written o at (lineOf (a .code ∷ []))
-      → Wrote o at (linesOf (numbersOf a ∷ [])) 42 out used
-  put-refused f h e t =
+  pub put-refused : {n : ℕ} → (a .code ≡ 0 → ⊥) → a .code < 2 ^ 64 → used ≡ next o at (lineOf (n ∷ []))
+      → out ≡ written o at (lineOf (n ∷ [])) → n ≡ a .code → Wrote o at (linesOf (numbersOf a ∷ [])) 42 out used
+  put-refused {n} f h e t en =
+      let line : lineOf (n ∷ []) ≡ lineOf (a .code ∷ []) = ap (λ (k : ℕ). lineOf (k ∷ [])) en in
       subst (λ (x : List ℕ). Wrote o at x 42 out used) (refused-line a f)
-      (put o at (lineOf (a .code ∷ [])) 42 out used (omega (arith, line-one (a .code) h)) room e t)
+      (put o at (lineOf (a .code ∷ [])) 42 out used (omega (arith, line-one (a .code) h)) room (e ∙ ap (next o at) line)
+      (t ∙ ap (written o at) line))
 
-  pub put-told : a .code ≡ 0 → a .ticks < 2 ^ 64 → used ≡ next o at (lineOf (0 ∷ a .ticks ∷ []))
-      → out ≡ written o at (lineOf (0 ∷ a .ticks ∷ []))
-      → Wrote o at (linesOf (numbersOf a ∷ [])) 42 out used
-  put-told z h e t =
-      subst (λ (x : List ℕ). Wrote o at x 42 out used) (told-line a z)
-      (put o at (lineOf (0 ∷ a .ticks ∷ [])) 42 out used (two-most 0 (a .ticks) (omega arith) h) room e t)
+  pub put-told : {z n : ℕ} → a .code ≡ 0 → a .ticks < 2 ^ 64 → used ≡ next o at (lineOf (z ∷ n ∷ []))
+      → out ≡ written o at (lineOf (z ∷ n ∷ [])) → z ≡ 0 → n ≡ a .ticks → Wrote o at (linesOf (numbersOf a ∷ [])) 42 out used
+  put-told {z} {n} c h e t ez en =
+      let line : lineOf (z ∷ n ∷ []) ≡ lineOf (0 ∷ a .ticks ∷ []) =
+      ap (λ (k : ℕ). lineOf (k ∷ n ∷ [])) ez ∙ ap (λ (k : ℕ). lineOf (0 ∷ k ∷ [])) en in
+      subst (λ (x : List ℕ). Wrote o at x 42 out used) (told-line a c)
+      (put o at (lineOf (0 ∷ a .ticks ∷ [])) 42 out used (two-most 0 (a .ticks) (omega arith) h) room (e ∙ ap (next o at) line)
+      (t ∙ ap (written o at) line))
 
 map-more : (l : List Answer) (a : Answer) → map numbersOf (l ++ (a ∷ [])) ≡ map numbersOf l ++ (numbersOf a ∷ [])
 map-more [] a = refl

@@ -53,10 +53,12 @@ const WRITTEN: [&str; 10] = [
 ];
 
 /// What it copies, files and folders.
-const COPIED: [(&str, &str); 13] = [
+const COPIED: [(&str, &str); 17] = [
     ("RULE.md", "docs/RULE.md"),
     ("bin/journal", "target/cargo/release/journal"),
+    ("bin/mtrask", "target/bin/mtrask"),
     ("bin/mtrrun", "target/bin/mtrrun"),
+    ("bin/mtrsum", "target/bin/mtrsum"),
     ("bin/mtrwhy", "target/bin/mtrwhy"),
     ("examples/host/c", "examples/host/c"),
     ("examples/host/rust/src", "examples/host/rust/src"),
@@ -65,7 +67,9 @@ const COPIED: [(&str, &str); 13] = [
     ("lib/libmtr.a", "target/staticlib/libabi.a"),
     ("rust/build.rs", "rust/mtr/build.rs"),
     ("rust/src", "rust/mtr/src"),
+    ("share/man/man1/mtrask.1", "docs/mtrask.1"),
     ("share/man/man1/mtrrun.1", "docs/mtrrun.1"),
+    ("share/man/man1/mtrsum.1", "docs/mtrsum.1"),
     ("share/man/man1/mtrwhy.1", "docs/mtrwhy.1"),
 ];
 
@@ -264,6 +268,12 @@ mtr = { path = \"vendor/mtr/rust\" }
     let why = told("vendor/mtr/bin/mtrwhy", &["journal.blocks", line[0]]);
     assert_eq!(why.lines().next(), Some(&format!("0 {}", line[2])[..]));
     assert_eq!((why.lines().count() - 1).to_string(), line[4]);
+    let mut sum = Command::new(project.join("vendor/mtr/bin/mtrsum"));
+    let summary = fs::File::create(project.join("journal.sum")).unwrap();
+    sum.arg(project.join("journal.blocks"));
+    assert_eq!(printed(sum.stdout(Stdio::from(summary))), "");
+    let used = told("vendor/mtr/bin/mtrask", &["journal.sum", "0", "0", "2"]);
+    assert!(used.starts_with("0 ") && used != "0 0\n", "{used}");
     let text = told("vendor/mtr/bin/journal", &["decode", "journal.blocks"]);
     assert!(text.contains("admit"), "{text}");
 }

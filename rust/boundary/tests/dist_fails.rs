@@ -20,15 +20,17 @@ const FOLDERS: &str = "target/staticlib target/bin target/cargo/release docs inc
 
 const FILES: &str =
     "dist.sh include/mtr.h rust/mtr/build.rs rust/mtr/Cargo.toml examples/host/rust/Cargo.toml
-    docs/PROOFS.md docs/RULE.md docs/mtrrun.1 docs/mtrwhy.1";
+    docs/PROOFS.md docs/RULE.md docs/mtrrun.1 docs/mtrwhy.1 docs/mtrsum.1 docs/mtrask.1";
 
 const ARCHIVE: &str = "target/staticlib/libabi.a";
 
 /// What the script packs of these, and the gate tests: in the order in which it names them.
-const BUILT: [(&str, &str); 4] = [
+const BUILT: [(&str, &str); 6] = [
     (ARCHIVE, "lib/libmtr.a"),
     ("target/cargo/release/journal", "bin/journal"),
+    ("target/bin/mtrask", "bin/mtrask"),
     ("target/bin/mtrrun", "bin/mtrrun"),
+    ("target/bin/mtrsum", "bin/mtrsum"),
     ("target/bin/mtrwhy", "bin/mtrwhy"),
 ];
 

@@ -4,7 +4,7 @@ use Prim.Native.Nat.{_*_, _-_, _≤_, _<_}
 use native.Mathlib.Omega.{arith}
 use lib.ListN.{length, take}
 use Rattle.text.specs.Inner.{Wrote}
-use Rattle.mtrask.specs.Inner.{answerText}
+use Rattle.mtrask.specs.Promise.{answerText}
 use Rattle.mtrask.proofs.Telling.{answers-none, answers-more, answers-all}
 use Rattle.mtrask.proofs.put_answers.Statement.{statement}
 use Rattle.mtrask.proofs.put_answers.Tie as tie
