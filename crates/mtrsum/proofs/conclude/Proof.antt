@@ -2,6 +2,7 @@
 use Prim.Native.Nat.{ℕ}
 use mathlib.Core.Path.{_≡_, refl, sym, ap, _∙_}
 use mathlib.Core.Bool.{Bool, true, false, cond, _&&_}
+use native.Mathlib.Omega.{arith}
 use lib.Dec.{eqb}
 use Rattle.program.specs.declared.Written.{Written}
 use Rattle.mtrsum.specs.declared.Verdict.{Verdict}
@@ -25,7 +26,10 @@ none-requires : tie.Need-none-requires
 none-requires c κs = search needs
 
 returns : tie.Need-returns
-returns c = let e = c .before in refused (e .before .if1 .taken) (e .tell .ensures) (c .none .ensures)
+returns c =
+    let e = c .before in
+    let taken = e .before .if1 .taken in
+    refused (λ (z : e .before .before .args .verdict .refusal ≡ 0). omega (arith, z, taken)) (e .tell .ensures) (c .none .ensures)
 
 has-failed-requires : tie.Need-has-failed-requires
 has-failed-requires c κs = search needs
@@ -47,7 +51,7 @@ returns-2 c =
     let e = c .before .before .before in
     let at = e .before .before .before in
     let v = at .before .before .before .before .args .verdict in
-    failed (at .before .before .before .if1 .left) (sym (at .before .has-failed .ensures) ∙ at .if2 .taken)
+    failed (omega (arith, at .before .before .before .if1 .left)) (sym (at .before .has-failed .ensures) ∙ at .if2 .taken)
     (c .before .refuse .ensures ∙ sym (unread v (e .before .count .result) true (e .before .count .ensures) (e .if3 .taken)))
     (c .none2 .ensures)
 
@@ -68,7 +72,7 @@ returns-3 c =
     let e = c .before .before .before .before in
     let at = e .before .before .before in
     let v = at .before .before .before .before .args .verdict in
-    failed (at .before .before .before .if1 .left) (sym (at .before .has-failed .ensures) ∙ at .if2 .taken)
+    failed (omega (arith, at .before .before .before .if1 .left)) (sym (at .before .has-failed .ensures) ∙ at .if2 .taken)
     (ap (λ (w : Written). w .handed) (c .before .none3 .ensures)
     ∙ sym (unread v (e .before .count .result) false (e .before .count .ensures) (e .if3 .left)))
     (c .none4 .ensures)
@@ -85,7 +89,7 @@ write-summary-requires c κs = search needs
 returns-4 : tie.Need-returns-4
 returns-4 c =
     let e = c .before .before .before .before in
-    summed (e .before .before .before .if1 .left) (sym (e .before .has-failed .ensures) ∙ e .if2 .left) refl
+    summed (omega (arith, e .before .before .before .if1 .left)) (sym (e .before .has-failed .ensures) ∙ e .if2 .left) refl
     (ap (λ (w : Written). w .handed) (c .before .none5 .ensures)) (c .write-summary .ensures)
 
 slice-aggregate-fail-2 : tie.Need-slice-aggregate-fail-2
@@ -103,7 +107,7 @@ none-requires-7 c κs = search needs
 returns-5 : tie.Need-returns-5
 returns-5 c =
     let e = c .before .before .before .before .before .before in
-    stuck (e .before .before .before .if1 .left) (sym (e .before .has-failed .ensures) ∙ e .if2 .left) refl
+    stuck (omega (arith, e .before .before .before .if1 .left)) (sym (e .before .has-failed .ensures) ∙ e .if2 .left) refl
     (ap (λ (w : Written). w .handed) (c .before .none6 .ensures)) (c .none7 .ensures)
 
 pub conclude-spec : {M : Type 1} → statement M
