@@ -22,7 +22,7 @@ use Rattle.usage.specs.Inner.{earlier}
 use Rattle.usage.proofs.Pieces.{piece-first, place-before, piece-used}
 use Rattle.mtrsum.specs.declared.Look.{Look}
 use Rattle.mtrsum.specs.declared.Piece.{Piece}
-use Rattle.mtrsum.specs.Promise.{Judged, Sent}
+use Rattle.mtrsum.specs.Promise.{wholeOf, Judged, Sent}
 
 -- The first reading.
 
@@ -58,12 +58,12 @@ sofar-more read refusal b r w z whole small g =
           ∙ earlier-zero (firstRefusal (events a)) (firstIn (blocksIn b) b (read / 512)) (sym (w .first) ∙ z));
     }
 
--- the piece leaves the file going on only where it is full and has no refused block
-more-not : (n k : ℕ) → (eqb n 0 && eqb k 16384) ≡ true → (n ≡ 0) × (k ≡ 16384)
-more-not n k e = go (eqb n 0) refl e
+-- a piece that is whole has no refused block, and all the bytes that were wanted
+pub whole-is : (refusal read want : ℕ) → wholeOf refusal read want ≡ true → (refusal ≡ 0) × (read ≡ want)
+whole-is refusal read want e = go (eqb refusal 0) refl e
   where
-    go : (b : Bool) → eqb n 0 ≡ b → (b && eqb k 16384) ≡ true → (n ≡ 0) × (k ≡ 16384)
-    go true t u = (eqb-true n 0 t, eqb-true k 16384 u)
+    go : (b : Bool) → eqb refusal 0 ≡ b → (b && eqb read want) ≡ true → (refusal ≡ 0) × (read ≡ want)
+    go true t u = (eqb-true refusal 0 t, eqb-true read want u)
     go false t u = absurd (clash false u refl)
 
 module _ (b : List ℕ) (place : ℕ) (r : Look) (g : Judged b place r) where
@@ -71,7 +71,7 @@ module _ (b : List ℕ) (place : ℕ) (r : Look) (g : Judged b place r) where
   read-most = omega (arith, g .read, cond-most (r .filled .failed) (r .filled .got), g .filled .most)
 
   pub goes-on : r .more ≡ true → (r .refusal ≡ 0) × (r .read ≡ 16384)
-  goes-on t = more-not (r .refusal) (r .read) (sym (g .more) ∙ t)
+  goes-on t = whole-is (r .refusal) (r .read) 16384 (sym (g .more) ∙ t)
 
   -- and it stops at a refused block, or where the last read answered 0 or less
   pub stops : r .more ≡ false → T (not (eqb (r .refusal) 0) || isOver (r .filled))
@@ -99,14 +99,6 @@ begun = refl
 pub sent-none : (u : Usage) → u ≡ unused → Sent-sofar 0 u
 sent-none u e = record { bytes = []; size = refl; none = sym none-first; after = e ∙ begun }
 
--- a piece that is the same has all the bytes that were wanted, and none of its blocks is refused
-pub same-is : (got want first : ℕ) → (eqb got want && eqb first 0) ≡ true → (got ≡ want) × (first ≡ 0)
-same-is got want first e = go (eqb got want) refl e
-  where
-    go : (b : Bool) → eqb got want ≡ b → (b && eqb first 0) ≡ true → (got ≡ want) × (first ≡ 0)
-    go true t u = (eqb-true got want t, eqb-true first 0 u)
-    go false t u = absurd (clash false u refl)
-
 both : (a b : Bool) → (a && b) ≡ true → a ≡ true
 both true b e = refl
 both false b e = e
@@ -120,15 +112,15 @@ sent-more sent left u b out r w whole small g more =
     let h : j ≤ 18446744073709551615 = omega (arith, small) in
     let before : u ≡ usedTo j a unused = w .after ∙ ap (λ (n : ℕ). usedTo n a unused) (whole-blocks a j e) in
     let place : u .replay .place ≡ j = ap (λ (v : Usage). v .replay .place) before ∙ place-before j a b e h in
-    let is = same-is (r .filled .got) (min 16384 left) (firstIn (blocksIn b) b (u .replay .place))
+    let is = whole-is (firstIn (blocksIn b) b (u .replay .place)) (r .filled .got) (min 16384 left)
     (sym (g .same) ∙ both (r .same) (r .written .done) (sym (g .more) ∙ more)) in
     record {
       bytes = a ++ b;
-      size = length-append a b ∙ omega (arith, w .size, g .size, is .0, g .want);
+      size = length-append a b ∙ omega (arith, w .size, g .size, is .1, g .want);
       none =
           piece-first j a b e h
           ∙ earlier-zero (firstRefusal (events a)) (firstIn (blocksIn b) b j) (w .none)
-          ∙ ap (firstIn (blocksIn b) b) (sym place) ∙ is .1;
+          ∙ ap (firstIn (blocksIn b) b) (sym place) ∙ is .0;
       after = g .after ∙ ap (usedTo (blocksIn b) b) before ∙ piece-used j a b e;
     }
 

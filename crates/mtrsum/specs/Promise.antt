@@ -26,13 +26,17 @@ use Rattle.mtrsum.specs.declared.Piece.{Piece}
 use Rattle.mtrsum.specs.declared.Sum.{Sum}
 use Rattle.mtrsum.specs.declared.Done.{Done}
 
+-- whether a piece is whole: no block of it is refused, and all the bytes that are wanted were read
+abbrev pub wholeOf : ℕ → ℕ → ℕ → Bool
+wholeOf refusal read want = eqb refusal 0 && eqb read want
+
 -- a piece of the first reading, the first of whose blocks stands at this place
 pub record Judged (bytes : List ℕ) (place : ℕ) (r : Look) : Type 0 where
   pub filled : Fetched 16384 (r .filled)
   pub read : r .read ≡ judgedOf (r .filled)
   pub size : length bytes ≡ r .read
   pub refusal : r .refusal ≡ firstIn (blocksIn bytes) bytes place
-  pub more : r .more ≡ (eqb (r .refusal) 0 && eqb (r .read) 16384)
+  pub more : r .more ≡ wholeOf (r .refusal) (r .read) 16384
 
 -- the whole of it: some bytes, as many as were judged
 pub record Reviewed (r : Verdict) : Type 0 where
@@ -41,13 +45,13 @@ pub record Reviewed (r : Verdict) : Type 0 where
   pub refusal : r .refusal ≡ firstRefusal (events bytes)
   pub pieces : Pieces (r .read) (r .last) (not (eqb (r .refusal) 0))
 
--- a piece of the second reading, of so many bytes that are left, with the usage before it and the area after it. It is the same where all
--- the bytes that are wanted were read and none of their blocks is refused
+-- a piece of the second reading, of so many bytes that are left, with the usage before it and the area after it. It is the same as at the
+-- first where it is whole
 pub record Sent (bytes : List ℕ) (left : ℕ) (u : Usage) (out : List ℕ) (r : Piece) : Type 0 where
   pub want : r .want ≡ min 16384 left
   pub filled : Fetched (min 16384 left) (r .filled)
   pub size : length bytes ≡ r .filled .got
-  pub same : r .same ≡ (eqb (r .filled .got) (min 16384 left) && eqb (firstIn (blocksIn bytes) bytes (u .replay .place)) 0)
+  pub same : r .same ≡ wholeOf (firstIn (blocksIn bytes) bytes (u .replay .place)) (r .filled .got) (min 16384 left)
   pub after : r .usage ≡ usedTo (blocksIn bytes) bytes u
   pub handed : r .written .handed ≡ cond (r .same) (1024 * blocksIn bytes) 0
   pub text : r .same ≡ true → take (r .written .handed) out ≡ pairsTo (blocksIn bytes) bytes u

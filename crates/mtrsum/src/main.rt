@@ -6,7 +6,7 @@ ghost use mathlib.Core.Bool.{cond};
 ghost use Prim.Native.Nat.{min};
 ghost use lib.ListN.{length, take};
 ghost use Rattle.text.specs.Decimal.{lineOf};
-ghost use Rattle.mtrsum.specs.Promise.{Judged, Reviewed, Sent, Summed, noSum, Concluded, Summarized, Served};
+ghost use Rattle.mtrsum.specs.Promise.{wholeOf, Judged, Reviewed, Sent, Summed, noSum, Concluded, Summarized, Served};
 use libc::STDERR_FILENO;
 use program::Filled;
 use program::Opened;
@@ -62,6 +62,19 @@ struct Done {
     sum: Sum,
 }
 
+// Whether a piece is whole: no block of it is refused, and all the bytes that are wanted were read.
+fn is_whole(refusal: u32, read: usize, want: usize) -> bool
+    ensures { λ r. ⌜ r ≡ wholeOf refusal read want ⌝ }
+{
+    if refusal != 0 {
+        return false;
+    }
+    if read != want {
+        return false;
+    }
+    true
+}
+
 // Reads the next blocks, the first of which stands at this place, and judges them.
 fn judge_some(fd: i32, place: u64, input: &mut [u8]) -> Look
     requires { ⌜ length (now input) ≡ 16384 ⌝ }
@@ -73,7 +86,7 @@ fn judge_some(fd: i32, place: u64, input: &mut [u8]) -> Look
     Look {
         read: read,
         refusal: refusal,
-        more: (refusal == 0) & (read == INPUT),
+        more: is_whole(refusal, read, INPUT),
         filled: filled,
     }
 }
@@ -148,7 +161,7 @@ fn sum_some(fd: i32, usage: Usage, left: u64, input: &mut [u8], out: &mut [u8]) 
     let ran = usage.run(&input[..got], out);
     let after = ran.usage;
     let refusal = ran.refusal;
-    let same = (got == want) & (refusal == 0);
+    let same = is_whole(refusal, got, want);
     let used = usage::PAIR * ((got + 511) / BLOCK);
     let written = send(&out[..], used, same, filled.has_failed());
     Piece {
@@ -227,10 +240,10 @@ fn rewind(fd: i32) -> bool {
 fn conclude(fd: i32, verdict: Verdict) -> Done
     ensures { λ r. ⌜ Concluded verdict r ⌝ }
 {
-    let refusal = verdict.refusal;
-    if refusal != 0 {
+    let first = verdict.refusal;
+    if first != 0 {
         return Done {
-            line: tell(refusal),
+            line: tell(first),
             again: false,
             sum: none(),
         };

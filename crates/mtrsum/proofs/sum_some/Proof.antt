@@ -2,10 +2,9 @@
 -- bytes came and none of their blocks is refused.
 use mathlib.Core.Path.{_≡_, sym, ap, subst, _∙_}
 use mathlib.Core.List.{List, _++_}
-use mathlib.Core.Bool.{Bool, true, cond, _&&_}
+use mathlib.Core.Bool.{Bool, cond, _&&_}
 use Prim.Native.Nat.{ℕ, _+_, _*_, _/_, min, _≤_}
 use native.Mathlib.Omega.{arith}
-use lib.Dec.{eqb}
 use lib.ListN.{length, take, drop, length-append, length-drop}
 use lib.Seq.{length-take-le}
 use borrow.Author.Needs.{needs}
@@ -14,8 +13,8 @@ use Rattle.sector.specs.Places.{blocksIn}
 use Rattle.usage.specs.Writer.{usedTo, firstIn}
 use Rattle.usage.proofs.Pieces.{ran-is, front-is}
 use Rattle.mtrsum.specs.declared.Piece.{Piece}
-use Rattle.mtrsum.specs.Promise.{Sent}
-use Rattle.mtrsum.proofs.Pieces.{same-is}
+use Rattle.mtrsum.specs.Promise.{wholeOf, Sent}
+use Rattle.mtrsum.proofs.Pieces.{whole-is}
 use Rattle.mtrsum.proofs.sum_some.Statement.{statement}
 use Rattle.mtrsum.proofs.sum_some.Tie as tie
 
@@ -110,11 +109,14 @@ module _ (c : tie.After-after) where
   abbrev at : tie.After-count
   at = ran .before .before .before
 
+is-whole-requires : tie.Need-is-whole-requires
+is-whole-requires c κs = search needs
+
 add-used : tie.Need-add-used
-add-used c = omega (arith, got-most (at c), asking (at c) .wanted .ensures)
+add-used c = let e = at (c .before) in omega (arith, got-most e, asking e .wanted .ensures)
 
 mul-used : tie.Need-mul-used
-mul-used c = omega (arith, got-most (at c), asking (at c) .wanted .ensures)
+mul-used c = let e = at (c .before) in omega (arith, got-most e, asking e .wanted .ensures)
 
 has-failed-requires : tie.Need-has-failed-requires
 has-failed-requires c κs = search needs
@@ -126,7 +128,7 @@ is-done-requires : tie.Need-is-done-requires
 is-done-requires c κs = search needs
 
 same-length : tie.Need-same-length
-same-length c = let e = at (c .before .before .before .before) in long e ∙ sym (S e .pre .0)
+same-length c = let e = at (c .before .before .before .before .before) in long e ∙ sym (S e .pre .0)
 
 same-length-2 : tie.Need-same-length-2
 same-length-2 c = search needs
@@ -134,7 +136,7 @@ same-length-2 c = search needs
 -- at the end
 module _ (c : tie.After-is-done) where
   abbrev mid : tie.After-after
-  mid = c .before .before .before .before
+  mid = c .before .before .before .before .before
 
   abbrev e : tie.After-count
   e = at mid
@@ -143,7 +145,7 @@ module _ (c : tie.After-is-done) where
   out = ran mid .run .last .1 .1 .0
 
   abbrev same : Bool
-  same = eqb (got e) (want (asking e)) && eqb (ran mid .run .result .refusal) 0
+  same = c .before .before .before .before .is-whole .result
 
   abbrev piece : Piece
   piece = record {
@@ -175,21 +177,23 @@ returns c =
     let ask = asking x in
     let want-is = ask .wanted .ensures in
     let done = ran m .run in
+    let whole = c .before .before .before .before .is-whole .ensures in
     subst (λ (n : ℕ). Sent (take n (area x)) (a .left) (a .usage) (out c) (piece c)) (x .count .ensures)
     (record {
       want = want-is;
       filled = subst (λ (n : ℕ). Fetched n (filled x .fill .result)) (part x ∙ want-is) (filled x .fill .ensures);
       size = size x ∙ x .count .ensures;
       same =
-          ap (λ (n : ℕ). eqb n (want ask) && eqb (done .result .refusal) 0) (x .count .ensures)
-          ∙ ap (λ (n : ℕ). eqb (filled x .fill .result .got) n && eqb (done .result .refusal) 0) want-is
-          ∙ ap (λ (n : ℕ). eqb (filled x .fill .result .got) (min 16384 (a .left)) && eqb n 0) (is c .0);
+          whole
+          ∙ ap (λ (n : ℕ). wholeOf (done .result .refusal) n (want ask)) (x .count .ensures)
+          ∙ ap (wholeOf (done .result .refusal) (filled x .fill .result .got)) want-is
+          ∙ ap (λ (n : ℕ). wholeOf n (filled x .fill .result .got) (min 16384 (a .left))) (is c .0);
       after = is c .1;
       handed = handed-is c;
       text = λ t.
-          let z = same-is (got x) (want ask) (done .result .refusal) t in
+          let z = whole-is (done .result .refusal) (got x) (want ask) (sym whole ∙ t) in
           ap (λ (n : ℕ). take n (out c)) (handed-is c ∙ ap (λ (b : Bool). cond b (1024 * blocksIn (bytes x)) 0) t)
-          ∙ front-is (bytes x) (a .out .now) (out c) (a .usage) (counts-long (S x)) (room x) (sym (is c .0) ∙ z .1) (done .ensures .1);
+          ∙ front-is (bytes x) (a .out .now) (out c) (a .usage) (counts-long (S x)) (room x) (sym (is c .0) ∙ z .0) (done .ensures .1);
       more = ap (λ (b : Bool). same c && b) (c .is-done .ensures);
     })
 
@@ -205,6 +209,7 @@ sum-some-spec =
     slice-reshare-prefix-run
     slice-aggregate-run
     run-requires
+    is-whole-requires
     add-used
     mul-used
     has-failed-requires
