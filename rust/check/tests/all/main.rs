@@ -4,6 +4,7 @@ mod blocks;
 mod calls;
 mod corpus;
 mod documents;
+mod ends;
 mod examples;
 mod guarantee;
 mod hostile;
