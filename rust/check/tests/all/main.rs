@@ -16,5 +16,6 @@ mod program;
 mod replay;
 mod stack;
 mod statements;
+mod usage;
 mod why;
 mod why_program;
