@@ -15,13 +15,23 @@ pub enum Call {
     Write,
 }
 
+/// A call that is about to be made.
+#[derive(Clone, Copy, Debug, PartialEq, Eq)]
+pub struct Stop {
+    pub call: Call,
+    /// How many of its kind were made before it.
+    pub before: usize,
+    /// For how many bytes it is made.
+    pub length: usize,
+}
+
 /// What becomes of a call.
 #[derive(Clone, Copy, Debug, PartialEq, Eq)]
 pub enum Then {
     /// It goes on.
     Goes,
     /// The same for so many bytes at most.
-    Takes(u64),
+    Takes(usize),
     /// It gives this error instead.
     Fails(i64),
 }
@@ -103,8 +113,8 @@ impl Stopped {
     }
 }
 
-/// What a program prints and says. `at` is asked at each call, with how many of its kind there were before, and says what becomes of it.
-/// The output goes to `out`, a new file.
+/// What a program prints and says that has the file at `path` for an argument. `at` is asked at each call, and says what becomes of it. The
+/// output goes to `out`, a new file.
 ///
 /// # Panics
 ///
@@ -113,7 +123,7 @@ pub fn traced(
     mut command: Command,
     path: &Path,
     out: &Path,
-    mut at: impl FnMut(Call, usize) -> Then,
+    mut at: impl FnMut(Stop) -> Then,
 ) -> (Vec<u8>, String) {
     let path = path.canonicalize().unwrap();
     command.stdin(Stdio::null()).stderr(Stdio::piped());
@@ -144,9 +154,15 @@ pub fn traced(
                 process.set(RESULT, -error);
             }
         } else if let Some(call) = process.call(&path) {
-            match at(call, made[call as usize]) {
+            let length = process.get(THIRD) as usize;
+            let before = made[call as usize];
+            match at(Stop {
+                call,
+                before,
+                length,
+            }) {
                 Then::Goes => {}
-                Then::Takes(bytes) => process.set(THIRD, process.get(THIRD).min(bytes as c_long)),
+                Then::Takes(bytes) => process.set(THIRD, length.min(bytes) as c_long),
                 Then::Fails(error) => {
                     // There is no such call.
                     process.set(NUMBER, -1);

@@ -17,5 +17,6 @@ mod replay;
 mod stack;
 mod statements;
 mod usage;
+mod usage_program;
 mod why;
 mod why_program;
