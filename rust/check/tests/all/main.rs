@@ -13,6 +13,7 @@ mod meter;
 mod old_journals;
 mod profile;
 mod program;
+mod readings;
 mod replay;
 mod stack;
 mod statements;
