@@ -3,7 +3,7 @@
 use model::blocks::{kind, read_block, BLOCK};
 use model::calls::run;
 use model::rule::{Scheduler, NONE, THREADS};
-use model::usage::{counts, read, Question, COUNTS};
+use model::usage::{counts, read, summary, Question, COUNTS};
 use std::collections::BTreeMap;
 
 /// What becomes of a question.
@@ -117,6 +117,21 @@ pub type Sorts = BTreeMap<Sort, usize>;
 pub fn rarer(sorts: &Sorts, least: usize) -> Vec<Sort> {
     let often = |sort: &Sort| sorts.get(sort).is_some_and(|&n| n >= least);
     Sort::ALL.into_iter().filter(|sort| !often(sort)).collect()
+}
+
+/// What `mtrsum` writes for a journal: the summary, or the line of the first refusal.
+pub fn written(journal: &[u8]) -> Vec<u8> {
+    summary(journal).unwrap_or_else(|refusal| format!("{refusal}\n").into_bytes())
+}
+
+/// What it writes where the reads fail after so many bytes, and none where that is said instead: the blocks that were read
+/// whole are judged. Where nothing was read it is 4.
+pub fn cut(journal: &[u8], bytes: usize) -> Option<Vec<u8>> {
+    let whole = &journal[..bytes / BLOCK * BLOCK];
+    match bytes {
+        0 => Some(b"4\n".to_vec()),
+        _ => summary(whole).is_err().then(|| written(whole)),
+    }
 }
 
 /// A journal that was summed: its blocks' refusals, and if there is none what its counts come from.

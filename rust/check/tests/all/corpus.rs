@@ -156,15 +156,10 @@ fn the_summaries() {
         let journal = case(&recipe).journal;
         journals.journal(&journal);
         let found = summed(&folder.file("journal", &journal));
-        let counts = match model::usage::counts(&journal) {
-            Ok(counts) => counts,
-            Err(refusal) => {
-                assert!(found == format!("{refusal}\n").as_bytes(), "{place}");
-                continue;
-            }
+        assert!(found == usage::written(&journal), "{place}");
+        let (Ok(counts), summary) = (model::usage::counts(&journal), found) else {
+            continue;
         };
-        let summary = model::usage::summary(&journal).unwrap();
-        assert!(found == summary, "{place}");
         let questions: Vec<Question> = (0..16).map(|_| any_question(&mut r, &counts)).collect();
         let answers: Vec<_> = questions
             .iter()

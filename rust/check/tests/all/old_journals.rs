@@ -10,6 +10,7 @@ use std::path::PathBuf;
 
 use check::journal;
 use check::program::{answered, printed, root, summed};
+use check::usage::written;
 use check::why::{rarer, sort_of, sorts, Sorts};
 use model::blocks::{read_block, Record, BLOCK};
 use model::replay::{replay, replay_with};
@@ -137,11 +138,8 @@ fn are_summed() {
     for (folder, _) in FOLDERS {
         for (name, journal) in stored(folder, "blocks") {
             let path = root().join(format!("rust/check/{folder}/{name}.blocks"));
-            let wanted = summary(&journal);
-            let refusal = wanted.as_ref().err().copied();
-            let text = wanted.unwrap_or_else(|e| format!("{e}\n").into_bytes());
-            assert!(summed(&path) == text, "{name}");
-            *outcomes.entry(refusal).or_default() += 1;
+            assert!(summed(&path) == written(&journal), "{name}");
+            *outcomes.entry(summary(&journal).err()).or_default() += 1;
         }
     }
     println!("{outcomes:?}");

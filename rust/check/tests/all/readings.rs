@@ -3,6 +3,7 @@
 
 use check::program::{asked, mtrsum, Folder};
 use check::traced::{traced, Call, Stop, Then, EIO, ENOSPC};
+use check::usage;
 use model::blocks::BLOCK;
 use model::usage::{ask, counts, lines, summary, Question};
 use samples::random::{any_question, long, Rng};
@@ -152,15 +153,12 @@ fn read_that_fails_in_the_first_reading() {
                 Call::Read => drip.at(stop),
                 _ => Then::Goes,
             });
-            // Blocks that were read whole before the failure are judged.
-            let refused = bad.is_some_and(|place| BLOCK * (place + 1) <= bytes);
-            let wanted = match bytes {
-                0 => ("4\n", ""),
-                _ if refused => ("18\n", ""),
-                _ => ("", UNREAD),
+            let wanted = match usage::cut(&journal, bytes) {
+                Some(line) => (line, ""),
+                None => (Vec::new(), UNREAD),
             };
+            assert_eq!((found.0.clone(), &found.1[..]), wanted, "{bad:?}, {bytes}");
             let printed = String::from_utf8(found.0).unwrap();
-            assert_eq!((&printed[..], &found.1[..]), wanted, "{bad:?}, {bytes}");
             *told.entry(printed).or_default() += 1;
         }
     }

@@ -2,7 +2,7 @@
 //! summary, and from one that is whole the answers of running the journal.
 
 use check::program::{asked, fed, mtrask, shipped, spelt, summed, Folder};
-use check::usage::{rarer, sort_of, Journals, Sorts};
+use check::usage::{rarer, sort_of, written, Journals, Sorts};
 use model::blocks::BLOCK;
 use model::usage::{ask, ask_from, ask_journal, counts, lines, summary, Question};
 use samples::random::{any_question, blocking, damage_summary, journal, long, Rng, SummaryDamage};
@@ -35,14 +35,8 @@ fn same(input: &[u8], found: &[u8], wanted: &[u8], what: &dyn Fn() -> String) {
 
 /// Sums a journal: the model's summary, if there is one.
 fn sum(path: &Path, input: &[u8]) -> Option<Vec<u8>> {
-    let found = summed(path);
-    let wanted = summary(input);
-    let text = match &wanted {
-        Ok(summary) => summary.clone(),
-        Err(refusal) => format!("{refusal}\n").into_bytes(),
-    };
-    same(input, &found, &text, &|| "mtrsum".into());
-    wanted.ok()
+    same(input, &summed(path), &written(input), &|| "mtrsum".into());
+    summary(input).ok()
 }
 
 /// Asks a summary in a file, and counts the sorts of the questions; the answers.
@@ -141,13 +135,11 @@ fn pieces_of_blocks() {
     let folder = Folder::new("usage-pieces");
     let mut r = Rng::new(92);
     let mut seen = Sorts::new();
-    let mut written = 0;
     for blocks in [1, 15, 16, 17, 31, 32, 33, 63, 64, 65, 96, 97] {
         let input = long(&mut r, blocks).concat();
         let path = folder.file("journal", &input);
         let summary = sum(&path, &input).unwrap();
         assert_eq!(summary.len(), 2 * input.len());
-        written += 1;
         let mut ends: Vec<u64> = [0, 15, 16, 31, 32, 47, 48, 63, 64, 95, 96].to_vec();
         ends.retain(|&n| n <= blocks as u64);
         ends.push(blocks as u64 - 1);
@@ -166,7 +158,7 @@ fn pieces_of_blocks() {
             assert_eq!(ask_journal(&input, &questions[0]), first);
         }
     }
-    println!("{written}, {seen:?}");
+    println!("{seen:?}");
     assert!(seen[&check::usage::Sort::Ticks] > 100, "{seen:?}");
 }
 
