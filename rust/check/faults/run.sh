@@ -292,7 +292,7 @@ else
     done
 fi
 [ $# -gt 0 ] || fail "no faults"
-for file in target/staticlib/libabi.a target/bin/mtrrun target/bin/mtrwhy; do
+for file in target/staticlib/libabi.a target/bin/mtrrun target/bin/mtrwhy target/bin/mtrsum target/bin/mtrask; do
     [ -f "$file" ] || fail "$file is missing: make check, make library"
 done
 mkdir -p "$out" || fail "$out can't be written"

@@ -1,5 +1,5 @@
-//! The entries of the builds with coverage: that of libFuzzer, with `mtrrun` and `mtrwhy` as functions, and that of
-//! `fuzz/coverage.sh`.
+//! The entries of the builds with coverage: that of libFuzzer, with `mtrrun`, `mtrwhy` and `mtrsum` as functions, and that
+//! of `fuzz/coverage.sh`.
 //!
 //! `fuzz/build.sh` compiles the programs' proved modules with coverage and renames their `main` and what they call of the
 //! system to the functions named here, so that they run within the fuzzer.
@@ -7,6 +7,7 @@
 use crate::attack::{Attack, ROUNDS, SEED};
 use crate::journal::{case, replay, Case};
 use crate::table_recipe::compared;
+use crate::usage;
 use crate::why::{cut, failing, questions, sorts};
 use core::ffi::{c_char, c_int, CStr};
 use std::cell::RefCell;
@@ -14,6 +15,7 @@ use std::cell::RefCell;
 extern "C" {
     fn mtrrun_main() -> c_int;
     fn mtrwhy_main() -> c_int;
+    fn mtrsum_main() -> c_int;
     fn rattle_set_errno(error: c_int);
 }
 
@@ -111,6 +113,16 @@ extern "C" fn fuzz_close(file: c_int) -> c_int {
     0
 }
 
+/// Goes to the journal's start.
+#[no_mangle]
+extern "C" fn fuzz_seek(file: c_int, to: i64, from: c_int) -> i64 {
+    PIPES.with_borrow_mut(|p| {
+        assert_eq!((p.open, to, from), (Some(file), 0, 0));
+        p.taken = 0;
+    });
+    0
+}
+
 /// The arguments, and the program's own name.
 #[no_mangle]
 extern "C" fn fuzz_arg_count() -> usize {
@@ -148,27 +160,45 @@ fn mtrrun(case: &Case) -> Vec<u8> {
     done.output
 }
 
-/// What `mtrwhy` prints about a record of a case's journal, of which so many bytes can be read if not all; none if it says
-/// that a read failed.
-fn mtrwhy(case: &Case, asked: u64, read: Option<usize>) -> Option<Vec<u8>> {
+/// What a program prints that has these words for arguments, the journal's name first. Of the case's journal so many bytes
+/// can be read if not all; none if it says that a read failed.
+fn of_file(
+    main: unsafe extern "C" fn() -> c_int,
+    name: &str,
+    case: &Case,
+    words: Vec<String>,
+    read: Option<usize>,
+) -> Option<Vec<u8>> {
     let length = read.unwrap_or(case.journal.len());
     PIPES.set(Pipes {
-        words: vec![NAME.into(), asked.to_string()],
+        words,
         input: case.journal[..length].to_vec(),
         fails: read.is_some(),
         pieces: case.pieces,
         ..Pipes::default()
     });
     // SAFETY: the program's main, which ignores its arguments.
-    assert_eq!(unsafe { mtrwhy_main() }, 0);
+    assert_eq!(unsafe { main() }, 0);
     let done = PIPES.take();
     assert!(done.open.is_none());
     if done.said.is_empty() {
         return Some(done.output);
     }
-    assert_eq!(done.said, b"mtrwhy: journal: Input/output error\n");
+    let said = format!("{name}: journal: Input/output error\n");
+    assert_eq!(done.said, said.as_bytes());
     assert!(done.output.is_empty());
     None
+}
+
+/// What `mtrwhy` prints about a record.
+fn mtrwhy(case: &Case, asked: u64, read: Option<usize>) -> Option<Vec<u8>> {
+    let words = vec![NAME.into(), asked.to_string()];
+    of_file(mtrwhy_main, "mtrwhy", case, words, read)
+}
+
+/// What `mtrsum` writes.
+fn mtrsum(case: &Case, read: Option<usize>) -> Option<Vec<u8>> {
+    of_file(mtrsum_main, "mtrsum", case, vec![NAME.into()], read)
 }
 
 /// A panic in it ends the process, which libFuzzer takes for the crash that it is.
@@ -194,6 +224,8 @@ pub unsafe extern "C" fn LLVMFuzzerTestOneInput(data: *const u8, size: usize) ->
     }
     let (asked, read) = (questions[0], failing(&case));
     assert!(mtrwhy(&case, asked, Some(read)) == cut(&case.journal, asked, read));
+    assert!(mtrsum(&case, None) == Some(usage::written(&case.journal)));
+    assert!(mtrsum(&case, Some(read)) == usage::cut(&case.journal, read));
     0
 }
 

@@ -1,4 +1,4 @@
-//! The static library, `mtrrun` and `mtrwhy` beside the reference model.
+//! The static library and the programs beside the reference model.
 //!
 //! - [`compare`]: a call on both sides, asserted equal.
 //! - [`bytes`]: the bytes that cross the boundary.
@@ -9,8 +9,10 @@
 //! - [`ties`]: the roster's order by its meaning, and what occurred of equal lags.
 //! - [`tables`]: what occurred of tables of priorities.
 //! - [`table_recipe`]: a table of priorities made of any bytes, and what both sides answer under it.
-//! - [`program`]: `mtrrun` and `mtrwhy`, run as they were built.
+//! - [`program`]: `mtrrun`, `mtrwhy`, `mtrsum` and `mtrask`, run as they were built.
+//! - [`traced`]: a program that is stopped where it reads, seeks and writes.
 //! - [`why`]: questions to `mtrwhy`, and the sorts of their answers.
+//! - [`usage`]: what occurred of summaries, and of questions to `mtrask`.
 //! - [`attack`]: arbitrary bytes and arguments to every exported function.
 //! - [`guard`]: memory to lend between two pages that nobody may touch.
 //! - [`faults`]: names the call at which a signal ended the process.
@@ -44,4 +46,6 @@ pub mod statements;
 pub mod table_recipe;
 pub mod tables;
 pub mod ties;
+pub mod traced;
+pub mod usage;
 pub mod why;

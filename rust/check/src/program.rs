@@ -1,5 +1,6 @@
-//! The programs `mtrrun` and `mtrwhy`, run as they were built.
+//! The programs `mtrrun`, `mtrwhy`, `mtrsum` and `mtrask`, run as they were built.
 
+use model::usage::Question;
 use std::ffi::OsStr;
 use std::io::{Read, Write};
 use std::path::{Path, PathBuf};
@@ -66,7 +67,17 @@ pub fn mtrwhy() -> Command {
     Command::new(root().join("target/bin/mtrwhy"))
 }
 
-/// What a run of `mtrwhy` printed.
+/// `target/bin/mtrsum`.
+pub fn mtrsum() -> Command {
+    Command::new(root().join("target/bin/mtrsum"))
+}
+
+/// `target/bin/mtrask`.
+pub fn mtrask() -> Command {
+    Command::new(root().join("target/bin/mtrask"))
+}
+
+/// What a run of a program printed.
 ///
 /// # Panics
 ///
@@ -77,6 +88,35 @@ pub fn silent(output: Output) -> Vec<u8> {
     output.stdout
 }
 
+/// What a program prints for an input that comes through a pipe, its standard
+/// input, in pieces of these lengths, again and again. It may stop before the end.
+///
+/// # Panics
+///
+/// If it fails, or says something.
+pub fn fed(mut command: Command, input: &[u8], pieces: &[usize]) -> Vec<u8> {
+    let mut child = command
+        .stdin(Stdio::piped())
+        .stdout(Stdio::piped())
+        .stderr(Stdio::piped())
+        .spawn()
+        .unwrap();
+    feed(child.stdin.take().unwrap(), input, pieces);
+    silent(child.wait_with_output().unwrap())
+}
+
+/// Writes until all is written or nobody reads.
+pub fn feed(mut to: impl Write, input: &[u8], pieces: &[usize]) {
+    let mut rest = input;
+    for &length in pieces.iter().cycle() {
+        let (piece, more) = rest.split_at(length.min(rest.len()));
+        if rest.is_empty() || to.write_all(piece).is_err() {
+            break;
+        }
+        rest = more;
+    }
+}
+
 /// What `mtrwhy` prints about a record of the journal in a file.
 ///
 /// # Panics
@@ -85,6 +125,32 @@ pub fn silent(output: Output) -> Vec<u8> {
 pub fn answered(journal: &Path, asked: impl AsRef<OsStr>) -> Vec<u8> {
     let output = mtrwhy().arg(journal).arg(asked).output();
     silent(output.unwrap_or_else(|e| panic!("mtrwhy: {e}: run rt check mtrwhy")))
+}
+
+/// What `mtrsum` writes for the journal in a file.
+///
+/// # Panics
+///
+/// If the program is missing or fails.
+pub fn summed(journal: &Path) -> Vec<u8> {
+    let output = mtrsum().arg(journal).output();
+    silent(output.unwrap_or_else(|e| panic!("mtrsum: {e}: run rt check mtrsum")))
+}
+
+/// The numbers of questions, as `mtrask` takes them.
+pub fn spelt(questions: &[Question]) -> Vec<String> {
+    let numbers = questions.iter().flat_map(|q| [q.thread, q.first, q.second]);
+    numbers.map(|n| n.to_string()).collect()
+}
+
+/// What `mtrask` prints for questions about the summary in a file.
+///
+/// # Panics
+///
+/// If the program is missing or fails.
+pub fn asked(summary: &Path, questions: &[Question]) -> Vec<u8> {
+    let output = mtrask().arg(summary).args(spelt(questions)).output();
+    silent(output.unwrap_or_else(|e| panic!("mtrask: {e}: run rt check mtrask")))
 }
 
 /// A folder of its own for a test, which goes with it.

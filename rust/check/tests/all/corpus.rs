@@ -1,17 +1,20 @@
-//! What the fuzzer began with and what it has learnt, run again: the library's functions, `mtrrun`, `mtrwhy` and the
-//! model agree on each case.
+//! What the fuzzer began with and what it has learnt, run again: the library's functions, the programs and the model agree
+//! on each case.
 
 use check::best_effort::BestEffort;
 use check::changes::Changes;
 use check::journal::{self, case};
 use check::late::Late;
-use check::program::{answered, printed, root, Folder};
+use check::program::{answered, asked, printed, root, summed, Folder};
 use check::share::Shares;
 use check::table_recipe::compared;
 use check::tables::Tables;
 use check::ties::Ties;
+use check::usage::{self, Journals};
 use check::why::{questions, rarer, sort_of, sorts, Sorts};
+use model::usage::Question;
 use model::why::why;
+use samples::random::{any_question, Rng};
 use std::collections::BTreeSet;
 use std::path::Path;
 use std::process::Command;
@@ -141,6 +144,36 @@ fn the_questions() {
     }
     println!("{seen:?}");
     assert!(rarer(&seen, 1).is_empty(), "{seen:?}");
+}
+
+/// The summary of each case, or its refusal, and some questions.
+#[test]
+fn the_summaries() {
+    let folder = Folder::new("corpus-summaries");
+    let mut r = Rng::new(101);
+    let (mut journals, mut seen) = (Journals::default(), usage::Sorts::new());
+    for (place, recipe) in recipes() {
+        let journal = case(&recipe).journal;
+        journals.journal(&journal);
+        let found = summed(&folder.file("journal", &journal));
+        assert!(found == usage::written(&journal), "{place}");
+        let (Ok(counts), summary) = (model::usage::counts(&journal), found) else {
+            continue;
+        };
+        let questions: Vec<Question> = (0..16).map(|_| any_question(&mut r, &counts)).collect();
+        let answers: Vec<_> = questions
+            .iter()
+            .map(|q| model::usage::ask(&summary, q))
+            .collect();
+        let found = asked(&folder.file("summary", &summary), &questions);
+        assert!(found == model::usage::lines(&answers), "{place}");
+        for q in &questions {
+            *seen.entry(usage::sort_of(&summary, q)).or_default() += 1;
+        }
+    }
+    println!("{journals:?}, {seen:?}");
+    assert!(journals.rarer(1).is_empty(), "{journals:?}");
+    assert!(seen[&usage::Sort::Ticks] > 100, "{seen:?}");
 }
 
 /// The part that only the fuzzer's build has compiles, without a warning.

@@ -2,8 +2,9 @@
 
 use check::compare::{self, to_library, to_library_line, to_library_table};
 use check::journal;
-use check::program::{answered, printed, Folder};
+use check::program::{answered, asked, printed, summed, Folder};
 use model::rule::Scheduler;
+use model::usage::{write, Question, COUNTS};
 use mtr::numbers;
 use samples::examples::{self, Fact};
 
@@ -59,6 +60,26 @@ fn through_the_programs() {
             assert_eq!(found, answer.as_bytes(), "{} {n}", example.name);
         }
     }
+}
+
+/// The example of processor use: what is run, what is summed and what is asked.
+#[test]
+fn of_processor_use() {
+    let folder = Folder::new("use");
+    let example = examples::usage();
+    let input = example.journal();
+    assert_eq!(printed(&input, &[1 << 20]), example.printed().as_bytes());
+    let rows = example.blocks.iter().map(|block| block.charged);
+    let halves: Vec<u64> = rows.flatten().collect();
+    let areas = halves.chunks(COUNTS).zip(0..);
+    let wanted: Vec<u8> = areas
+        .flat_map(|(counts, n)| write(n, counts.try_into().unwrap()))
+        .collect();
+    let summary = summed(&folder.file("journal", &input));
+    assert_eq!(summary, wanted);
+    let questions: Vec<Question> = example.questions.iter().map(|(q, _)| *q).collect();
+    let found = asked(&folder.file("summary", &summary), &questions);
+    assert_eq!(found, example.answers().as_bytes());
 }
 
 #[test]

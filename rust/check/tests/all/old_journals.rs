@@ -9,10 +9,12 @@ use std::fs;
 use std::path::PathBuf;
 
 use check::journal;
-use check::program::{answered, printed, root};
+use check::program::{answered, printed, root, summed};
+use check::usage::written;
 use check::why::{rarer, sort_of, sorts, Sorts};
 use model::blocks::{read_block, Record, BLOCK};
 use model::replay::{replay, replay_with};
+use model::usage::summary;
 use model::why::why;
 
 /// The folders, with how many journals are in each.
@@ -127,6 +129,21 @@ fn as_before(folder: &str) -> Sorts {
     }
     println!("{folder}: {seen:?}");
     seen
+}
+
+/// What `mtrsum` writes for them, which no earlier version did: the model's summary, or the refusal of the first refused block.
+#[test]
+fn are_summed() {
+    let mut outcomes = BTreeMap::<Option<u32>, u32>::new();
+    for (folder, _) in FOLDERS {
+        for (name, journal) in stored(folder, "blocks") {
+            let path = root().join(format!("rust/check/{folder}/{name}.blocks"));
+            assert!(summed(&path) == written(&journal), "{name}");
+            *outcomes.entry(summary(&journal).err()).or_default() += 1;
+        }
+    }
+    println!("{outcomes:?}");
+    assert!(outcomes.keys().eq(&[None, Some(17), Some(18), Some(19)]));
 }
 
 /// They are old: each folder has the kinds of records that its version had, and the first no overrun limit.

@@ -1,12 +1,10 @@
 //! The program `mtrwhy` against the model: the same bytes on standard output for the same journal and number.
 
-use check::program::{answered, mtrwhy, root, shipped, silent, Folder};
+use check::program::{answered, fed, feed, mtrwhy, root, shipped, silent, Folder};
 use check::why::{drawn, rarer, sort_of, sorts, Named, Sort, Sorts, FAR};
-use model::blocks::{read_block, Record, BLOCK, RECORDS};
-use model::calls::run;
-use model::rule::{Scheduler, BLOCKED, NONE};
+use model::blocks::{read_block, BLOCK, RECORDS};
 use model::why::why;
-use samples::random::{blocking, journal, Rng};
+use samples::random::{blocking, journal, long, Rng};
 use samples::records;
 use std::io::{pipe, Read, Write};
 use std::path::Path;
@@ -94,31 +92,11 @@ fn shipped_journals() {
     assert_eq!(why(&std::fs::read(&journal).unwrap(), 7), stdout);
 }
 
-/// What the program prints for a journal that comes through a pipe in pieces of these lengths, again and again. It may stop
-/// before the end.
+/// What the program prints for a journal that comes through a pipe in pieces of these lengths, again and again.
 fn piped(input: &[u8], pieces: &[usize], asked: u64) -> Vec<u8> {
-    let mut child = mtrwhy()
-        .args(["/dev/stdin", &asked.to_string()])
-        .stdin(Stdio::piped())
-        .stdout(Stdio::piped())
-        .stderr(Stdio::piped())
-        .spawn()
-        .unwrap();
-    let to = child.stdin.take().unwrap();
-    feed(to, input, pieces);
-    silent(child.wait_with_output().unwrap())
-}
-
-/// Writes until all is written or nobody reads.
-fn feed(mut to: impl Write, input: &[u8], pieces: &[usize]) {
-    let mut rest = input;
-    for &length in pieces.iter().cycle() {
-        let (piece, more) = rest.split_at(length.min(rest.len()));
-        if rest.is_empty() || to.write_all(piece).is_err() {
-            break;
-        }
-        rest = more;
-    }
+    let mut command = mtrwhy();
+    command.args(["/dev/stdin", &asked.to_string()]);
+    fed(command, input, pieces)
 }
 
 #[test]
@@ -163,34 +141,6 @@ fn named_pipe() {
         });
         assert_eq!(found, why(&input, asked), "{asked}");
     }
-}
-
-/// A journal of so many full blocks without a refusal: eight threads, of which several are blocked at most dispatches.
-fn long(r: &mut Rng, blocks: usize) -> Vec<[u8; BLOCK]> {
-    let mut s = Scheduler::default();
-    let mut list: Vec<Record> = Vec::new();
-    while list.len() < RECORDS * blocks {
-        let blocked: Vec<u64> = (0..8)
-            .filter(|&n| s.threads[n as usize].status == BLOCKED)
-            .collect();
-        let slice = match s.threads.get(s.running as usize) {
-            Some(t) => t.slice(&s.settings) as u64,
-            None => 0,
-        };
-        let made = if s.count < 8 {
-            records::admit(s.count as u64, 0, 100)
-        } else if s.running != NONE {
-            records::report(r.pick(&[0, 1, 1]), r.below(slice + 1))
-        } else if blocked.len() > 2 && r.chance(1, 2) {
-            records::wake(r.pick(&blocked))
-        } else {
-            records::dispatch()
-        };
-        assert_eq!(run(&mut s, &made).answer, 0);
-        list.push(made);
-    }
-    let areas = (0..).zip(list.chunks(RECORDS));
-    areas.map(|(n, part)| records::block(n, part)).collect()
 }
 
 /// Journals that end at a piece's end, before it and after it, asked about blocks at the ends of pieces, as a file and as a

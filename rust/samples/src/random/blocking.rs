@@ -4,7 +4,8 @@ use super::calls::weight;
 use super::journals::{damage, damage_block, start_record};
 use super::states::{admitted, with_status};
 use super::{call, Rng};
-use model::blocks::{write_block, Record, BLOCK};
+use crate::records;
+use model::blocks::{write_block, Record, BLOCK, RECORDS};
 use model::calls::{record, run, Call};
 use model::rule::{Scheduler, BLOCKED, FREE, NONE};
 
@@ -144,4 +145,34 @@ pub fn blocking(r: &mut Rng) -> Vec<u8> {
     let mut input = blocks.concat();
     input.append(&mut tail);
     input
+}
+
+/// The threads of [`long`], of both halves of a summary.
+const LONG: [u64; 8] = [0, 63, 31, 32, 7, 40, 1, 62];
+
+/// The blocks of a journal, so many and all full, without a refusal: eight
+/// threads, of which several are blocked at most dispatches.
+pub fn long(r: &mut Rng, blocks: usize) -> Vec<[u8; BLOCK]> {
+    let mut s = Scheduler::default();
+    let mut list: Vec<Record> = Vec::new();
+    while list.len() < RECORDS * blocks {
+        let blocked = with_status(&s, BLOCKED);
+        let slice = match s.threads.get(s.running as usize) {
+            Some(t) => t.slice(&s.settings) as u64,
+            None => 0,
+        };
+        let made = if let Some(&next) = LONG.get(s.count as usize) {
+            records::admit(next, 0, 100)
+        } else if s.running != NONE {
+            records::report(r.pick(&[0, 1, 1]), r.below(slice + 1))
+        } else if blocked.len() > 2 && r.chance(1, 2) {
+            records::wake(r.pick(&blocked) as u64)
+        } else {
+            records::dispatch()
+        };
+        assert_eq!(run(&mut s, &made).answer, 0);
+        list.push(made);
+    }
+    let areas = (0..).zip(list.chunks(RECORDS));
+    areas.map(|(n, part)| records::block(n, part)).collect()
 }

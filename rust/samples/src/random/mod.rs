@@ -12,7 +12,7 @@ mod tables;
 
 use model::rule::{METER_LIMIT, METER_MAX, TAG_UNIT};
 
-pub use blocking::blocking;
+pub use blocking::{blocking, long};
 pub use broken::broken_states;
 pub use calls::call;
 pub use hostile::hostile_state;
