@@ -1,5 +1,5 @@
 /*
- * The move-to-rear list scheduler (MTR-LS), version 3.1.0, for C11 and C++11 or
+ * The move-to-rear list scheduler (MTR-LS), version 3.2.0, for C11 and C++11 or
  * later on x86-64.
  *
  * Written from the Rattle sources; do not edit. To renew it:
@@ -171,18 +171,18 @@ extern "C" {
 MTR_STRUCT(size_t, 8, 8);
 
 /* The version as text. */
-#define MTR_VERSION_TEXT "3.1.0"
+#define MTR_VERSION_TEXT "3.2.0"
 
 /* The version; mtr_version answers that of the library. */
 
 /* Major. */
 #define MTR_VERSION_MAJOR 3
 /* Minor. */
-#define MTR_VERSION_MINOR 1
+#define MTR_VERSION_MINOR 2
 /* Patch. */
 #define MTR_VERSION_PATCH 0
 /* One number: 10000 times the major, 100 times the minor, and the patch. */
-#define MTR_VERSION 30100
+#define MTR_VERSION 30200
 
 /* Numbers of threads, groups and rows, and the parts of a block. */
 

@@ -28,7 +28,8 @@ unfolding startOn served haltedBy replyTo after afterAll readAt isRead nextPlace
 replays = tt
 
 unfoldable counted : Unit {0}
-unfolding eventsOf blockEvents eventsTo events isCall does runs isReport charges chargedBy ticksIn countAt firstRefusal eventsBetween usageOf
+unfolding eventsOf blockEvents eventsTo events isCall does runs isReport charges chargedBy ticksIn countAt firstRefusal eventsBetween
+    usageOf
 counted = tt
 
 unfoldable written : Unit {0}

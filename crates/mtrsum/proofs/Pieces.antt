@@ -8,7 +8,7 @@ use native.Mathlib.Omega.{arith}
 use lib.ListN.{length, length-append}
 use lib.Dec.{T, eqb}
 use borrow.Author.Tests.{eqb-true, eqb-false, eq-eqb}
-use Rattle.base.proofs.Bools.{cases, clash}
+use Rattle.base.proofs.Bools.{clash}
 use Rattle.sector.specs.Places.{blocksIn}
 use Rattle.sector.proofs.Places.{whole-blocks}
 use Rattle.program.specs.Pieces.{isOver}

@@ -34,11 +34,11 @@ macro_rules! layout {
 /// Major.
 pub const VERSION_MAJOR: u32 = 3;
 /// Minor.
-pub const VERSION_MINOR: u32 = 1;
+pub const VERSION_MINOR: u32 = 2;
 /// Patch.
 pub const VERSION_PATCH: u32 = 0;
 /// One number: 10000 times the major, 100 times the minor, and the patch.
-pub const VERSION: u32 = 30100;
+pub const VERSION: u32 = 30200;
 
 // Numbers of threads, groups and rows, and the parts of a block.
 

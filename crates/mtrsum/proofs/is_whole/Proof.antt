@@ -20,8 +20,10 @@ returns-2 : tie.Need-returns-2
 returns-2 c =
     let a = c .before .before .args in
     let taken = c .if2 .taken in
-    sym (simp (eq-eqb (a .refusal) 0 (good (c .before)),
-    ne-eqb (a .read) (a .want) (λ (z : a .read ≡ a .want). omega (arith, z, taken))))
+    sym (simp (
+      eq-eqb (a .refusal) 0 (good (c .before)),
+      ne-eqb (a .read) (a .want) (λ (z : a .read ≡ a .want). omega (arith, z, taken)),
+    ))
 
 returns-3 : tie.Need-returns-3
 returns-3 c =

@@ -1,5 +1,5 @@
 -- `send` meets its contract: by whether the piece is the same, what is handed on, or nothing.
-use Prim.Native.Nat.{ℕ, min}
+use Prim.Native.Nat.{min}
 use mathlib.Core.Path.{sym, ap, _∙_}
 use mathlib.Core.Bool.{Bool, cond}
 use lib.ListN.{length}

@@ -23,7 +23,8 @@ none-requires c κs = search needs
 
 returns : tie.Need-returns
 returns c =
-    let bad = c .before .before .before .enum-told .given in unopened (ap openedRefusal (bad .1)) (c .before .refuse .ensures) (c .none .ensures)
+    let bad = c .before .before .before .enum-told .given in
+    unopened (ap openedRefusal (bad .1)) (c .before .refuse .ensures) (c .none .ensures)
 
 rewind-requires : tie.Need-rewind-requires
 rewind-requires c κs = search needs
