@@ -2,7 +2,6 @@
 //! cited exists, and so does every definition and theorem in docs/PROOFS.md.
 //! The published table of priorities is that of the code, the library and the model, and so is the standard table.
 //! The table of kinds is that of the library and the model, and the tables of the worked examples are those that the tests run.
-//! The examples of the manual page of `mtrwhy` print what stands there.
 
 use check::compare::to_model_table;
 use model::blocks::{fields, Record, BLOCK};
@@ -13,13 +12,12 @@ use samples::{examples, records};
 use std::collections::BTreeSet;
 use std::fs;
 use std::path::{Path, PathBuf};
-use std::process::{Command, Output};
 
-fn root() -> PathBuf {
+pub fn root() -> PathBuf {
     Path::new(env!("CARGO_MANIFEST_DIR")).join("../..")
 }
 
-fn read(path: &Path) -> String {
+pub fn read(path: &Path) -> String {
     fs::read_to_string(path).unwrap_or_else(|error| panic!("{}: {error}", path.display()))
 }
 
@@ -39,7 +37,7 @@ fn files(folder: &Path, ends: &[&str], found: &mut Vec<PathBuf>) {
 }
 
 /// A section's number at the beginning of a text: "2", "2.4" or "10.1".
-fn number(text: &str) -> &str {
+pub fn number(text: &str) -> &str {
     let end = text
         .find(|c: char| !c.is_ascii_digit() && c != '.')
         .unwrap_or(text.len());
@@ -169,7 +167,7 @@ fn every_name_in_proofs_exists() {
 type Line<'a> = (u64, u32, &'a str);
 
 /// The lines of a text after one that begins so and before the next that ends the part.
-fn part<'a>(text: &'a str, begin: &'a str, end: &'a str) -> impl Iterator<Item = &'a str> {
+pub fn part<'a>(text: &'a str, begin: &'a str, end: &'a str) -> impl Iterator<Item = &'a str> {
     text.lines()
         .skip_while(move |line| !line.starts_with(begin))
         .skip(1)
@@ -351,6 +349,7 @@ fn described(text: &str) -> Record {
     let digit = text.find(|c: char| c.is_ascii_digit());
     match (text[..digit.unwrap_or(text.len())].trim(), &numbers[..]) {
         ("start, m =", &[m, p]) => records::start(m as u16, p as u32, 0),
+        ("start, m =", &[m, p, o]) => records::start(m as u16, p as u32, o as u16),
         ("admit best-effort", &[number, weight]) => records::admit_weight(number, weight),
         ("admit", &[number, group, amount]) => records::admit(number, group, amount),
         ("wake", &[number]) => records::wake(number),
@@ -417,55 +416,38 @@ fn the_tables_of_the_examples() {
     assert!(asked.eq(told));
 }
 
-/// Runs a command at the root, with the proved programs on the path.
-fn ran(command: &str) -> Output {
-    let path = std::env::var("PATH").unwrap();
-    let programs = root().join("target/bin");
-    Command::new("sh")
-        .args(["-c", command])
-        .current_dir(root())
-        .env("PATH", format!("{}:{path}", programs.display()))
-        .output()
-        .unwrap()
-}
-
-/// The commands of a manual page with what stands below each: lines `$ COMMAND` between .nf and .fi.
-fn examples(page: &str) -> Vec<(&str, String)> {
-    let mut found: Vec<(&str, String)> = Vec::new();
-    for lines in page.split("\n.nf\n").skip(1) {
-        let (lines, _) = lines.split_once("\n.fi\n").unwrap();
-        for line in lines.lines() {
-            match line.strip_prefix("$ ") {
-                Some(command) => found.push((command, String::new())),
-                None => found.last_mut().unwrap().1 += &format!("{line}\n"),
-            }
-        }
-    }
-    found
-}
-
+/// The tables of RULE 10.9 are the example of processor use: its records with what `mtrrun` prints, its counts, and questions of it.
 #[test]
-fn the_manual_page_of_mtrwhy() {
-    let page = read(&root().join("docs/mtrwhy.1"));
-    let mut seen = BTreeSet::new();
-    for (command, below) in examples(&page) {
-        let output = ran(command);
-        let said = String::from_utf8(output.stderr).unwrap();
-        let printed = String::from_utf8(output.stdout).unwrap();
-        assert_eq!((printed, said), (below.clone(), String::new()), "{command}");
-        seen.insert(number(&below).to_string());
-    }
-    // Its answers, each in an example, but for the meter at its limit.
-    let heads = part(&page, ".SH ANSWERS", ".SH ");
-    let answers: BTreeSet<String> = heads
-        .map(|line| number(line.strip_prefix(".RI ").unwrap_or(line)).to_string())
-        .filter(|answer| !answer.is_empty() && answer != "15")
+fn the_tables_of_processor_use() {
+    let rule = read(&root().join("docs/RULE.md"));
+    let lines: Vec<&str> = part(&rule, "**10.9 ", "**10.10 ").collect();
+    let tables: Vec<Vec<Vec<&str>>> = lines
+        .split(|line| !line.starts_with('|'))
+        .map(|table| rows(table.iter().copied()))
+        .filter(|table| !table.is_empty())
         .collect();
-    assert_eq!(answers.len(), 4);
-    assert_eq!(answers, seen);
-    // Its message where the answer can't be written.
-    let output = ran("mtrwhy examples/journals/listing.blocks 7 > /dev/full");
-    let said = String::from_utf8(output.stderr).unwrap();
-    assert_eq!(said, "mtrwhy: standard output: No space left on device\n");
-    assert!(page.contains("\n.RI \"mtrwhy: standard output: \" reason\n"));
+    let [printed, counts, questions] = &tables[..] else {
+        panic!("{} tables", tables.len());
+    };
+    let example = examples::usage();
+    let steps: Vec<_> = example.blocks.iter().flat_map(|b| &b.steps).collect();
+    assert_eq!(printed.len(), steps.len());
+    for (row, step) in printed.iter().zip(steps) {
+        assert_eq!(row[0], format!("`{}`", step.printed));
+        assert_eq!(described(row[1]), step.record, "{}", row[0]);
+    }
+    assert_eq!(counts.len(), example.blocks.len());
+    for (row, block) in counts.iter().zip(&example.blocks) {
+        let wanted = [5, 40, 63].map(|n| block.charged[n]);
+        assert_eq!([1, 2, 3].map(|i| grouped(row[i])), wanted);
+        assert_eq!(wanted.iter().sum::<u64>(), block.charged.iter().sum());
+    }
+    assert!(questions.len() > 10);
+    for row in questions {
+        let asked = example
+            .questions
+            .iter()
+            .find(|(q, _)| row[0] == format!("{} {} {}", q.thread, q.first, q.second));
+        assert_eq!(row[1], format!("`{}`", asked.expect(row[0]).1));
+    }
 }

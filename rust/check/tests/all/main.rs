@@ -11,6 +11,7 @@ mod hostile;
 mod imports;
 mod meter;
 mod old_journals;
+mod pages;
 mod profile;
 mod program;
 mod readings;
