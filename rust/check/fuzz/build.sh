@@ -1,6 +1,6 @@
 #!/bin/sh
-# Builds the fuzzer target/fuzz/replay: libFuzzer over the static library, mtrrun, mtrwhy and mtrsum, each compiled with coverage from the
-# very module that was proved, and over the model. Needs rt, cargo, and Debian's clang, libclang-rt-14-dev and binutils.
+# Builds the fuzzer target/fuzz/replay: libFuzzer over the static library and the four programs, each compiled with coverage from the very
+# module that was proved, and over the model. Needs rt, cargo, and Debian's clang, libclang-rt-14-dev and binutils.
 #
 # rattle has its modules compiled by the clang of its toolchain folder. Here that clang is a script that compiles each module as always, and
 # a second time with coverage to an object beside it. What rt makes is thereby the same as ever, which is checked.
@@ -37,7 +37,7 @@ mkdir -p "$out/tree/target"
 ln -s "$root/crates" "$out/tree/crates"
 cp crates.txt "$out/tree/"
 for f in rlib stamp log; do [ ! -d "target/$f" ] || cp -a "target/$f" "$out/tree/target/"; done
-rm -f "$out/tree/target/stamp/mtrrun" "$out/tree/target/stamp/mtrwhy" "$out/tree/target/stamp/mtrsum"
+for f in mtrrun mtrwhy mtrsum mtrask; do rm -f "$out/tree/target/stamp/$f"; done
 
 quiet() { # WORDS: rt on that repository, shown only if it fails
     (cd "$out/tree" && RATTLE_HOME=$kit rt "$@") >"$out/log" 2>&1 || { cat "$out/log" && exit 1; }
@@ -48,7 +48,7 @@ made() { # OBJECT FILE: keeps the object with coverage, and sees that what rt ma
 }
 quiet staticlib abi
 made abi.o staticlib/libabi.a
-for name in mtrrun mtrwhy mtrsum; do
+for name in mtrrun mtrwhy mtrsum mtrask; do
     quiet check "$name"
     made program.o "obj/$name.o"
     # What a program has of the system is the fuzzer's, src/fuzzer.rs.
@@ -64,6 +64,6 @@ RUSTFLAGS="--cfg fuzzing -C overflow-checks -C passes=sancov-module$(llvm level=
     CARGO_TARGET_DIR=$out/cargo cargo rustc --quiet --offline -j1 --release --target "$host" -p check --lib --crate-type staticlib
 
 # abi.o comes first, so that the archive's own copy of the library is not taken.
-clang -fsanitize=fuzzer "$out/abi.o" "$out/mtrrun.o" "$out/mtrwhy.o" "$out/mtrsum.o" "$out/cargo/$host/release/libcheck.a" \
+clang -fsanitize=fuzzer "$out/abi.o" "$out/mtrrun.o" "$out/mtrwhy.o" "$out/mtrsum.o" "$out/mtrask.o" "$out/cargo/$host/release/libcheck.a" \
     "$home/lib/libos_c.a" -o "$out/replay"
 echo "target/fuzz/replay"

@@ -1,5 +1,5 @@
-//! The entries of the builds with coverage: that of libFuzzer, with `mtrrun`, `mtrwhy` and `mtrsum` as functions, and that
-//! of `fuzz/coverage.sh`.
+//! The entries of the builds with coverage: that of libFuzzer, with `mtrrun`, `mtrwhy`, `mtrsum` and `mtrask` as functions, and
+//! that of `fuzz/coverage.sh`.
 //!
 //! `fuzz/build.sh` compiles the programs' proved modules with coverage and renames their `main` and what they call of the
 //! system to the functions named here, so that they run within the fuzzer.
@@ -10,18 +10,21 @@ use crate::table_recipe::compared;
 use crate::usage;
 use crate::why::{cut, failing, questions, sorts};
 use core::ffi::{c_char, c_int, CStr};
+use model::usage::{ask, counts, lines, Question};
+use samples::random::{any_question, damage_summary, Rng};
 use std::cell::RefCell;
 
 extern "C" {
     fn mtrrun_main() -> c_int;
     fn mtrwhy_main() -> c_int;
     fn mtrsum_main() -> c_int;
+    fn mtrask_main() -> c_int;
     fn rattle_set_errno(error: c_int);
 }
 
 const EIO: c_int = 5;
 
-/// The journal's name, and the descriptor that it gets.
+/// The file's name, and the descriptor that it gets.
 const NAME: &str = "journal";
 const FILE: c_int = 3;
 
@@ -160,31 +163,39 @@ fn mtrrun(case: &Case) -> Vec<u8> {
     done.output
 }
 
-/// What a program prints that has these words for arguments, the journal's name first. Of the case's journal so many bytes
-/// can be read if not all; none if it says that a read failed.
-fn of_file(
+/// A program that is given a file, and how it names the file.
+struct Program {
     main: unsafe extern "C" fn() -> c_int,
-    name: &str,
-    case: &Case,
-    words: Vec<String>,
+    name: &'static str,
+    input: &'static str,
+}
+
+/// What it prints with these arguments after the file's name. Of the file so many bytes can be read if not all; none if it
+/// says that a read failed.
+fn of_file(
+    program: Program,
+    input: &[u8],
+    pieces: [usize; 2],
+    words: impl IntoIterator<Item = u64>,
     read: Option<usize>,
 ) -> Option<Vec<u8>> {
-    let length = read.unwrap_or(case.journal.len());
+    let length = read.unwrap_or(input.len());
+    let words = words.into_iter().map(|word| word.to_string());
     PIPES.set(Pipes {
-        words,
-        input: case.journal[..length].to_vec(),
+        words: std::iter::once(NAME.to_string()).chain(words).collect(),
+        input: input[..length].to_vec(),
         fails: read.is_some(),
-        pieces: case.pieces,
+        pieces,
         ..Pipes::default()
     });
     // SAFETY: the program's main, which ignores its arguments.
-    assert_eq!(unsafe { main() }, 0);
+    assert_eq!(unsafe { (program.main)() }, 0);
     let done = PIPES.take();
     assert!(done.open.is_none());
     if done.said.is_empty() {
         return Some(done.output);
     }
-    let said = format!("{name}: journal: Input/output error\n");
+    let said = format!("{}: {}: Input/output error\n", program.name, program.input);
     assert_eq!(done.said, said.as_bytes());
     assert!(done.output.is_empty());
     None
@@ -192,13 +203,50 @@ fn of_file(
 
 /// What `mtrwhy` prints about a record.
 fn mtrwhy(case: &Case, asked: u64, read: Option<usize>) -> Option<Vec<u8>> {
-    let words = vec![NAME.into(), asked.to_string()];
-    of_file(mtrwhy_main, "mtrwhy", case, words, read)
+    let program = Program {
+        main: mtrwhy_main,
+        name: "mtrwhy",
+        input: "journal",
+    };
+    of_file(program, &case.journal, case.pieces, [asked], read)
 }
 
 /// What `mtrsum` writes.
 fn mtrsum(case: &Case, read: Option<usize>) -> Option<Vec<u8>> {
-    of_file(mtrsum_main, "mtrsum", case, vec![NAME.into()], read)
+    let program = Program {
+        main: mtrsum_main,
+        name: "mtrsum",
+        input: "journal",
+    };
+    of_file(program, &case.journal, case.pieces, [], read)
+}
+
+/// `mtrask` on the journal's summary, whole or damaged, as the recipe has it.
+fn summary_asked(recipe: &[u8], case: &Case) {
+    let Ok(counts) = counts(&case.journal) else {
+        return;
+    };
+    let seed = recipe.iter().fold(1, |seed: u64, &byte| {
+        seed.wrapping_mul(0x100_0000_01b3) ^ u64::from(byte)
+    });
+    let mut rng = Rng::new(seed);
+    let mut summary = usage::written(&case.journal);
+    for _ in 0..rng.below(3) {
+        if !summary.is_empty() {
+            damage_summary(&mut rng, &mut summary);
+        }
+    }
+    let questions: Vec<Question> = (0..rng.range(1, 64))
+        .map(|_| any_question(&mut rng, &counts))
+        .collect();
+    let words = questions.iter().flat_map(|q| [q.thread, q.first, q.second]);
+    let program = Program {
+        main: mtrask_main,
+        name: "mtrask",
+        input: "summary",
+    };
+    let answers: Vec<_> = questions.iter().map(|q| ask(&summary, q)).collect();
+    assert!(of_file(program, &summary, case.pieces, words, None) == Some(lines(&answers)));
 }
 
 /// A panic in it ends the process, which libFuzzer takes for the crash that it is.
@@ -226,6 +274,7 @@ pub unsafe extern "C" fn LLVMFuzzerTestOneInput(data: *const u8, size: usize) ->
     assert!(mtrwhy(&case, asked, Some(read)) == cut(&case.journal, asked, read));
     assert!(mtrsum(&case, None) == Some(usage::written(&case.journal)));
     assert!(mtrsum(&case, Some(read)) == usage::cut(&case.journal, read));
+    summary_asked(recipe, &case);
     0
 }
 
