@@ -7,7 +7,7 @@ use mathlib.Core.Bool.{Bool, true, false, not, cond, _&&_, _||_}
 use native.Mathlib.Omega.{arith}
 use lib.ListN.{length, length-append}
 use lib.Dec.{T, eqb}
-use borrow.Author.Tests.{eqb-true, eqb-false, eq-eqb}
+use borrow.Author.Tests.{eqb-true, eqb-false}
 use Rattle.base.proofs.Bools.{clash}
 use Rattle.sector.specs.Places.{blocksIn}
 use Rattle.sector.proofs.Places.{whole-blocks}
@@ -22,7 +22,7 @@ use Rattle.usage.specs.Inner.{earlier}
 use Rattle.usage.proofs.Pieces.{piece-first, place-before, piece-used}
 use Rattle.mtrsum.specs.declared.Look.{Look}
 use Rattle.mtrsum.specs.declared.Piece.{Piece}
-use Rattle.mtrsum.specs.Promise.{wholeOf, Judged, Sent}
+use Rattle.mtrsum.specs.Promise.{wholeOf, Judged, Sent, Ended, cut}
 
 -- The first reading.
 
@@ -133,11 +133,6 @@ turned-not true e = refl
 turned-not false e = sym e
 
 -- why the second reading ends: all is summed, or the piece was not the same or its write failed
-pub all-sent : (sent size : ℕ) (b : Bool) → sent ≡ size → T (eqb sent size || b)
-all-sent sent size b e = subst (λ (x : Bool). T (x || b)) (sym (eq-eqb sent size e)) tt
-
-pub cut-short : (all same done : Bool) → (same && done) ≡ false → T (all || (not same || not done))
-cut-short true same done e = tt
-cut-short false false done e = tt
-cut-short false true false e = tt
-cut-short false true true e = absurd (clash true refl e)
+pub ended-cut : (size sent left : ℕ) (u : Usage) (b out : List ℕ) (p : Piece) → sent + left ≡ size → Sent b left u out p → p .more ≡ false
+    → Ended size (record { sent = sent; same = p .same; usage = u; written = p .written; filled = p .filled })
+ended-cut size sent left u b out p e g f = cut b out p (subst (λ (n : ℕ). Sent b n u out p) (omega (arith, e)) g) f refl refl refl

@@ -3,11 +3,11 @@
 -- the summary stands at the front of the area, and as many bytes as that has are handed to the write. Of the whole: a line where a block is
 -- refused or the file is bad, else the summary, up to a piece that is not what it was or a write that failed. Which bytes the journal has
 -- at each reading, and which stand in the output, no contract can say.
-use Prim.Native.Nat.{ℕ, _*_, min, _≤_}
+use Prim.Native.Nat.{ℕ, _*_, _-_, min, _≤_}
 use mathlib.Core.Path.{_≡_}
 use mathlib.Core.List.{List, [], _∷_}
-use mathlib.Core.Bool.{Bool, true, false, not, cond, _&&_, _||_}
-use lib.Dec.{T, eqb}
+use mathlib.Core.Bool.{Bool, true, false, not, cond, _&&_}
+use lib.Dec.{eqb}
 use lib.IntN.{ℤ}
 use lib.ListN.{length, take}
 use Rattle.sector.specs.Places.{blocksIn}
@@ -18,12 +18,13 @@ use Rattle.usage.specs.Usage.{firstRefusal}
 use Rattle.usage.specs.Writer.{unused, usedTo, pairsTo, firstIn}
 use Rattle.program.specs.declared.Opened.{Opened}
 use Rattle.program.specs.declared.Opened.the-variants as Opening
-use Rattle.program.specs.Program.{openedRefusal, noWrite}
+use Rattle.program.specs.Program.{openedRefusal, noWrite, noPiece}
 use Rattle.program.specs.Pieces.{Fetched, judgedOf, Pieces}
 use Rattle.mtrsum.specs.declared.Look.{Look}
 use Rattle.mtrsum.specs.declared.Verdict.{Verdict}
 use Rattle.mtrsum.specs.declared.Piece.{Piece}
 use Rattle.mtrsum.specs.declared.Sum.{Sum}
+use Rattle.mtrsum.specs.declared.Line.{Line}
 use Rattle.mtrsum.specs.declared.Done.{Done}
 
 -- whether a piece is whole: no block of it is refused, and all the bytes that are wanted were read
@@ -57,20 +58,31 @@ pub record Sent (bytes : List ℕ) (left : ℕ) (u : Usage) (out : List ℕ) (r 
   pub text : r .same ≡ true → take (r .written .handed) out ≡ pairsTo (blocksIn bytes) bytes u
   pub more : r .more ≡ (r .same && r .written .done)
 
+-- why it ended: all is summed, or the piece that came next was not the same or was not written whole
+pub data Ended (size : ℕ) (r : Sum) : Type 0 where
+  all : r .sent ≡ size → Ended size r
+  cut : (bytes out : List ℕ) (p : Piece) → Sent bytes (size - r .sent) (r .usage) out p → p .more ≡ false → r .same ≡ p .same
+      → r .written ≡ p .written → r .filled ≡ p .filled → Ended size r
+
 -- the whole of it, for a file of this size: some bytes, as many as have their summary written and none of their blocks refused, and what is
 -- carried on is theirs. So the pairs of the pieces, one after the other, are the summary of these bytes (`piece-writes`). They are all the
--- bytes, unless a piece was not the same or a write failed
+-- bytes, unless the next piece was not the same or its write failed
 pub record Summed (size : ℕ) (r : Sum) : Type 0 where
   pub bytes : List ℕ
   pub sent : length bytes ≡ r .sent
   pub most : r .sent ≤ size
   pub none : firstRefusal (events bytes) ≡ 0
   pub after : r .usage ≡ usedTo (blocksIn bytes) bytes unused
-  pub ended : T (eqb (r .sent) size || (not (r .same) || not (r .written .done)))
+  pub ended : Ended size r
 
 -- where nothing is summed
 abbrev pub noSum : Sum
-noSum = record { sent = 0; same = true; usage = unused; written = noWrite }
+noSum = record { sent = 0; same = true; usage = unused; written = noWrite; filled = noPiece }
+
+-- the line of a refusal
+pub record Lined (refusal : ℕ) (r : Line) : Type 0 where
+  pub within : r .used ≤ length (r .text)
+  pub text : take (r .used) (r .text) ≡ lineOf (refusal ∷ [])
 
 -- whether nothing of the file was read
 abbrev pub isUnread : Verdict → Bool

@@ -6,7 +6,7 @@ ghost use mathlib.Core.Bool.{cond};
 ghost use Prim.Native.Nat.{min};
 ghost use lib.ListN.{length, take};
 ghost use Rattle.text.specs.Decimal.{lineOf};
-ghost use Rattle.mtrsum.specs.Promise.{wholeOf, Judged, Reviewed, Sent, Summed, noSum, Concluded, Summarized, Served};
+ghost use Rattle.mtrsum.specs.Promise.{wholeOf, Judged, Reviewed, Sent, Summed, noSum, Lined, Concluded, Summarized, Served};
 use libc::STDERR_FILENO;
 use program::Filled;
 use program::Opened;
@@ -47,12 +47,19 @@ struct Piece {
 }
 
 // The second reading: how many bytes of the file have their summary written, whether every piece was what it was at the first, what comes
-// after them, and the last write.
+// after them; and of the piece that ended it the write and what was read.
 struct Sum {
     sent: u64,
     same: bool,
     usage: Usage,
     written: Written,
+    filled: Filled,
+}
+
+// A line, in the first `used` bytes of the text.
+struct Line {
+    text: [u8; 21],
+    used: usize,
 }
 
 // How the program ended: the line that was written, whether the file was gone back to, and what was summed.
@@ -188,11 +195,13 @@ fn write_summary(fd: i32, size: u64) -> Sum
         let piece = sum_some(fd, usage, left, &mut input, &mut out);
         if !piece.more {
             let written = piece.written;
+            let filled = piece.filled;
             return Sum {
                 sent: sent,
                 same: piece.same,
                 usage: usage,
                 written: written,
+                filled: filled,
             };
         }
         usage = piece.usage;
@@ -204,6 +213,7 @@ fn write_summary(fd: i32, size: u64) -> Sum
         same: true,
         usage: usage,
         written: Written::none(),
+        filled: Filled::none(),
     }
 }
 
@@ -217,17 +227,31 @@ fn none() -> Sum
         same: true,
         usage: usage,
         written: Written::none(),
+        filled: Filled::none(),
     }
 }
 
-// Writes the line of a refusal.
-fn tell(refusal: u32) -> Written
-    ensures { λ r. ⌜ r .handed ≡ length (lineOf (refusal ∷ [])) ⌝ }
+// The line of a refusal.
+fn line_of(refusal: u32) -> Line
+    ensures { λ r. ⌜ Lined refusal r ⌝ }
 {
     let mut out = [0u8; 21];
     let line = [refusal as u64];
     let end = text::put_line(&mut out, 0, &line);
-    program::write(&out, end, b"mtrsum: standard output")
+    Line {
+        text: out,
+        used: end,
+    }
+}
+
+// Writes it.
+fn tell(refusal: u32) -> Written
+    ensures { λ r. ⌜ r .handed ≡ length (lineOf (refusal ∷ [])) ⌝ }
+{
+    let line = line_of(refusal);
+    let used = line.used;
+    let text = line.text;
+    program::write(&text, used, b"mtrsum: standard output")
 }
 
 // Goes to the file's start. A pipe has none to go back to.

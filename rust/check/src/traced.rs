@@ -130,12 +130,12 @@ pub fn traced(
     command.stdout(File::create(out).unwrap());
     // SAFETY: one call of the system between fork and exec.
     unsafe {
-        command.pre_exec(|| {
-            ptrace(TRACE_ME, 0, NONE, NONE);
-            Ok(())
+        command.pre_exec(|| match ptrace(TRACE_ME, 0, NONE, NONE) {
+            0 => Ok(()),
+            _ => Err(std::io::Error::last_os_error()),
         });
     }
-    let child = command.spawn().unwrap();
+    let child = command.spawn().expect("a program is traced, by ptrace");
     let process = Stopped(child.id() as c_int);
     let first = process.wait();
     // SAFETY: a child that has stopped.
