@@ -58,6 +58,16 @@ def chains(text, helpers):
     return text
 
 
+def lent(callee):
+    """The `&mut` parameters of a function of the repository, in order."""
+    parts = callee.split("::")
+    for path in sorted(glob.glob(f"crates/{parts[0]}/src/**/*.rt", recursive=True)):
+        m = re.search(rf"\bfn {re.escape(parts[-1])}(?:<[^>]*>)?\(([^{{]*?)\)\s*(?:->|requires|ensures|\{{)", open(path, encoding="utf-8").read(), re.S)
+        if m:
+            return ["self" if p.strip() == "&mut self" else p.split(":")[0].strip() for p in m[1].split(",") if re.match(r"\s*(&mut self|\w+: &mut )", p)]
+    return []
+
+
 class Function:
     def __init__(self, names):
         self.parent = {p[0]: p[1] for p in names["places"]}
@@ -79,7 +89,12 @@ class Function:
         self.loops = []
         for (pair, params), changed in zip(names["loops"], names["changed"]):
             self.loops.append((pair[0], pair[1], params, changed))
-        self.clauses = names
+        self.clauses = {}
+        for p, c in zip(names["places"], names["clauses"]):
+            if c and c.get("fields") and p[2][1]:
+                self.clauses[p[2][1]] = c["fields"]
+        self.asked = names.get("asked") or {}
+        self.lent = {p[2][1]: lent(p[3]) for p in names["places"] if p[2][1] and len(p) > 3 and p[3]}
 
     def need(self, old):
         forms = [old, re.sub(r"^overflow_(add|sub|mul|shl|shr|cast|step)-", r"\1-", old), re.sub(r"^nonzero_(div|rem)-", r"\1-", old)]
@@ -100,9 +115,91 @@ class Function:
             s[:2] = self.args[(s[0], s[1])]
         elif s and s[0] in self.step:
             s[0] = self.step[s[0]]
+        elif s and s[0].replace("Before", "before") in self.step:
+            s[0] = self.step[s[0].replace("Before", "before")]
         if len(s) > 1 and s[1] == "inv":
             s[1] = "invariant"
         return s
+
+    def late(self, text):
+        """Names of clauses in place of numbers, behind a step or a name for one."""
+        text = re.sub(r"\.inv(?=[.\s(),])", ".invariant", text)
+        alias = dict(re.findall(rf"\blet ({W}) = c\.({W}) in", text))
+
+        def one(m):
+            segs = m[0].split(".")
+            if "ensures" in segs:
+                at = segs.index("ensures")
+                step = segs[at - 1]
+                step = alias.get(step, step) if at == 1 else step
+                fields = self.clauses.get(step)
+                if fields and len(fields) > 1:
+                    i, n = at + 1, 0
+                    while i < len(segs) and segs[i] == "1" and n < len(fields) - 1:
+                        n += 1
+                        i += 1
+                    if i < len(segs) and segs[i] == "0" and n < len(fields) - 1:
+                        i += 1
+                    elif i < len(segs) and segs[i].isdigit() and n == 0:
+                        n = int(segs[i])
+                        i += 1
+                    if i > at + 1 and n < len(fields):
+                        segs[at + 1 : i] = [fields[n]]
+            if "new" in segs:
+                at = segs.index("new")
+                step = segs[at - 1]
+                step = alias.get(step, step) if at == 1 else step
+                mine = self.lent.get(step) or []
+                if at + 1 < len(segs) and segs[at + 1].isdigit() and int(segs[at + 1]) < len(mine):
+                    segs[at + 1] = mine[int(segs[at + 1])]
+                elif len(mine) == 1 and (at + 1 == len(segs) or segs[at + 1] not in mine):
+                    segs[at + 1 : at + 1] = mine
+            return ".".join(segs)
+
+        return PATH.sub(one, text)
+
+    def record(self, need, old, body):
+        fields = self.asked.get(need) or self.asked.get(old)
+        if not fields or len(fields) < 2:
+            return body
+        t = body.rstrip()
+        if not t.endswith(")"):
+            return body
+        depth, i = 0, len(t) - 1
+        while i >= 0:
+            if t[i] == ")":
+                depth += 1
+            elif t[i] == "(":
+                depth -= 1
+                if depth == 0:
+                    break
+            i -= 1
+        before = t[:i].rstrip()
+        if before and not re.search(r"(?:\bin|=)$", before):
+            return body
+
+        def parts(inner):
+            out, d, cur = [], 0, ""
+            for ch in inner:
+                if ch in "([{":
+                    d += 1
+                elif ch in ")]}":
+                    d -= 1
+                if ch == "," and d == 0:
+                    out.append(cur.strip())
+                    cur = ""
+                else:
+                    cur += ch
+            if cur.strip():
+                out.append(cur.strip())
+            return out
+
+        ps = parts(t[i + 1 : -1])
+        while len(ps) < len(fields) and ps[-1].startswith("(") and ps[-1].endswith(")"):
+            ps[-1:] = parts(ps[-1][1:-1])
+        if len(ps) != len(fields):
+            return body
+        return before + " record {\n      " + "\n      ".join(f"{f} = {p};" for f, p in zip(fields, ps)) + "\n    }\n"
 
     def body(self, text, env, need, helpers, whole):
         """env: variable -> old place."""
@@ -196,8 +293,7 @@ def convert(crate, folder, names):
             if have is None:
                 other.append((comment, core))
                 continue
-            want = [f"l.{p}" for p, c in zip(ps, changed) if not c]
-            want += [f"l.initial.{p}" for p, c in zip(ps, changed) if c] + [f"l.{p}" for p, c in zip(ps, changed) if c]
+            want = [f"l.initial.{p}" if c else f"l.{p}" for p, c in zip(ps, changed)] + [f"l.{p}" for p, c in zip(ps, changed) if c]
             sub = dict(zip(have, want))
             note = "" if len(have) == len(want) else f"-- LOOK: {have} against {want}\n"
 
@@ -209,8 +305,10 @@ def convert(crate, folder, names):
             invariants.append(f"{note}{comment.strip(chr(10)) + chr(10) if comment.strip() else ''}abbrev pub {which}-{new} : goal.{which}-{new}\n{unfolding + chr(10) if unfolding else ''}{which}-{new} l ={body}\n")
             continue
         if tie and tie.startswith("Need-"):
-            new = f.need(tie[5:])
+            new = f.need(tie[5:].split(" ")[0])
             have, body = params(eq, name)
+            if body is not None and body.strip() in ("search rules", "search (rules)"):
+                continue
             if new is None or have is None:
                 other.append((f"-- LOOK: need {tie}\n", core))
                 continue
@@ -238,6 +336,7 @@ def convert(crate, folder, names):
             body, _ = f.body(body, env, new, [], True)
             if have and have[0] != "c":
                 body = PATH.sub(lambda m: ".".join(["c"] + m[0].split(".")[1:]) if m[0].split(".")[0] == have[0] else m[0], body)
+            body = f.record(new, tie[5:], f.late(body))
             answers.append((new, f"{comment.strip(chr(10)) + chr(10) if comment.strip() else ''}pub {new} : goal.{new}\n{unfolding + chr(10) if unfolding else ''}{new} c ={body}\n"))
             continue
         if re.search(r"→ tie\.", sig) and "abbrev" in first[1]:
@@ -257,6 +356,7 @@ def convert(crate, folder, names):
                 goals.add(f.place[m[2]])
         core = re.sub(rf"tie\.({W}){loop_args}", lambda m: f.place.get(m[1], "tie." + m[1]), core)
         core, _ = f.body(core, env, None, [], False)
+        core = f.late(core)
         extra.append(comment + core.rstrip("\n") + "\n")
     folder_path = f"crates/{crate}/proofs/{folder}"
     base = f"Rattle.{crate}.proofs." + ".".join(folder.split("/"))
