@@ -139,8 +139,8 @@ mod tests {
 
     #[test]
     fn contracts() {
-        let wanted = vec![mark("⌜"), Kind::Word("x".into()), mark("'"), mark("≡")];
-        assert_eq!(kinds("⌜ x' ≡"), wanted);
+        let wanted = vec![Kind::Word("x".into()), mark("'"), mark("≡"), mark("◌")];
+        assert_eq!(kinds("x' ≡ ◌"), wanted);
     }
 
     #[test]

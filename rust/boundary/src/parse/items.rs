@@ -43,7 +43,7 @@ pub struct Struct {
     pub line: usize,
 }
 
-/// A function marked `#[no_mangle] pub extern "C"`.
+/// A function marked `#[unsafe(no_mangle)] pub extern "C"`.
 #[derive(Clone, Debug, PartialEq, Eq)]
 pub struct Function {
     pub doc: Vec<String>,

@@ -44,9 +44,14 @@ impl Parser {
         let doc = self.doc();
         let (mut fixed, mut exported) = (false, false);
         while self.passes("#") {
+            // One of the whole file, as `#![tactic(auto)]`.
+            if self.passes("!") {
+                self.attribute()?;
+                return Ok(());
+            }
             match &self.attribute()?[..] {
                 "repr ( C )" => fixed = true,
-                "no_mangle" => exported = true,
+                "unsafe ( no_mangle )" => exported = true,
                 _ => {}
             }
         }
@@ -54,11 +59,7 @@ impl Parser {
         let line = self.line();
         let word = self.word("an item")?;
         match &word[..] {
-            "use" => {
-                let path = self.path()?;
-                self.file.imports.push(path);
-                self.expect(";")
-            }
+            "use" => self.imports(),
             // What the contracts import.
             "ghost" if self.is_word("use") => self.past(";"),
             "mod" => {
@@ -90,17 +91,39 @@ impl Parser {
                 if !(c && public && exported && owner.is_none() && self.passes_word("fn")) {
                     return Err(self.error(
                         line,
-                        "an exported function is marked `#[no_mangle] pub extern \"C\"` and stands in no impl",
+                        "an exported function is marked `#[unsafe(no_mangle)] pub extern \"C\"` and stands in no impl",
                     ));
                 }
                 let function = self.function(doc, line)?;
                 self.file.functions.push(function);
                 Ok(())
             }
-            "fn" if exported => Err(self.error(line, "`#[no_mangle]` without `extern \"C\"`")),
+            "fn" if exported => Err(self.error(line, "`#[unsafe(no_mangle)]` without `extern \"C\"`")),
             "fn" => self.body(),
             other => Err(self.error(line, format!("`{other}` begins no item that is known"))),
         }
+    }
+
+    /// What `use` names: one path, or names of one module in braces.
+    fn imports(&mut self) -> Result<(), Error> {
+        let mut path = vec![self.word("a name")?];
+        while self.passes("::") {
+            if self.passes("{") {
+                while !self.passes("}") {
+                    let name = self.word("a name")?;
+                    let import = path.iter().cloned().chain([name]).collect();
+                    self.file.imports.push(import);
+                    if !self.passes(",") {
+                        self.expect("}")?;
+                        break;
+                    }
+                }
+                return self.expect(";");
+            }
+            path.push(self.word("a name")?);
+        }
+        self.file.imports.push(path);
+        self.expect(";")
     }
 
     /// What stands in an attribute's brackets, its tokens parted by a space.
@@ -271,6 +294,10 @@ impl Parser {
             }
             self.next("a function's body")?;
             if contract {
+                // A clause may have a name.
+                if !self.is("{") {
+                    self.word("a clause")?;
+                }
                 self.block()?;
             }
         }

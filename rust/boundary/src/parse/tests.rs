@@ -16,7 +16,12 @@ fn refused() {
         ),
         ("fn f() {\n  {", "2: the file's end where `}` should stand"),
         ("\n\nwhile x", "3: `while` begins no item that is known"),
-        ("use a::{b, c};", "1: `{` where a name should stand"),
+        ("use a::{b::c};", "1: `::` where `}` should stand"),
+        ("use a::*;", "1: `*` where a name should stand"),
+        (
+            "fn f() ensures 1 { } { }",
+            "1: `1` where a clause should stand",
+        ),
     ] {
         assert_eq!(said(source), format!("a.rt:{wanted}"));
     }
@@ -26,17 +31,17 @@ fn refused() {
 fn exports_are_marked_whole() {
     for source in [
         "\npub extern \"C\" fn f() {}",
-        "#[no_mangle]\nextern \"C\" fn f() {}",
-        "#[no_mangle]\npub extern \"D\" fn f() {}",
-        "impl A { #[no_mangle]\npub extern \"C\" fn f() {} }",
+        "#[unsafe(no_mangle)]\nextern \"C\" fn f() {}",
+        "#[unsafe(no_mangle)]\npub extern \"D\" fn f() {}",
+        "impl A { #[unsafe(no_mangle)]\npub extern \"C\" fn f() {} }",
     ] {
         assert_eq!(
             said(source),
-            "a.rt:2: an exported function is marked `#[no_mangle] pub extern \"C\"` and stands in no impl"
+            "a.rt:2: an exported function is marked `#[unsafe(no_mangle)] pub extern \"C\"` and stands in no impl"
         );
     }
     assert_eq!(
-        said("#[no_mangle]\npub fn f() {}"),
-        "a.rt:2: `#[no_mangle]` without `extern \"C\"`"
+        said("#[unsafe(no_mangle)]\npub fn f() {}"),
+        "a.rt:2: `#[unsafe(no_mangle)]` without `extern \"C\"`"
     );
 }
