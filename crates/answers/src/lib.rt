@@ -3,7 +3,7 @@
 
 // A call is accepted, or refused with a number. An accepted dispatch is idle, with the number of threads, or says who runs, for how long,
 // and how many threads stood before it.
-#[derive(Drop)]
+#[derive(Clone, Copy)]
 pub enum Answer {
     Accepted,
     Refused(u32),
