@@ -15,9 +15,9 @@ pub fn uncommented<'a>(line: &'a str, mark: &str) -> &'a str {
 }
 
 /// The names in a text: what stands between blanks and brackets. Of one with a dot it is what stands before the dot, so that a field that is
-/// taken (`t .status`) is none.
+/// taken (`t.status`) is none.
 pub fn names(text: &str) -> BTreeSet<&str> {
-    let apart = |c: char| c.is_whitespace() || "(){};,«»⟨⟩⌜⌝".contains(c);
+    let apart = |c: char| c.is_whitespace() || "(){};,«»".contains(c);
     text.split(apart)
         .flat_map(|word| word.split(".."))
         .filter_map(|word| word.split('.').next())
@@ -25,12 +25,11 @@ pub fn names(text: &str) -> BTreeSet<&str> {
         .collect()
 }
 
-/// Whether a name is among these: whole, or, if it has places for arguments (`_+_`), by what stands between them.
+/// Whether a name is among these: whole, or, if it has places for arguments (`◌+◌`), by what stands between them.
 pub fn uses(names: &BTreeSet<&str>, name: &str) -> bool {
     let name = name.trim_matches(['«', '»']);
-    let placed = name.starts_with('_') || name.ends_with('_');
-    let mut parts = name.split('_').filter(|part| !part.is_empty());
-    names.contains(name) || placed && parts.all(|part| names.contains(part))
+    let mut parts = name.split('◌').filter(|part| !part.is_empty());
+    names.contains(name) || name.contains('◌') && parts.all(|part| names.contains(part))
 }
 
 /// What a line imports: each name with the one that it has here. A module that is given a name here is one too.

@@ -344,9 +344,8 @@ fn lines(imports: Vec<[String; 3]>) -> String {
     lines.join("\n")
 }
 
-/// The file of a module of proofs/: `Rattle·block·proofs.proofs.Theorems` is block/proofs/Theorems.antt.
+/// The file of a module of proofs/: `Rattle.block.proofs.Theorems` is block/proofs/Theorems.antt.
 fn below(module: &str) -> Option<String> {
-    let (own, path) = module.strip_prefix("Rattle·")?.split_once(".proofs.")?;
-    let own = own.split('·').next()?;
+    let (own, path) = module.strip_prefix("Rattle.")?.split_once(".proofs.")?;
     Some(format!("{own}/proofs/{}.antt", path.replace('.', "/")))
 }

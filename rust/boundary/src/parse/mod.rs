@@ -98,7 +98,9 @@ impl Parser {
                 self.file.functions.push(function);
                 Ok(())
             }
-            "fn" if exported => Err(self.error(line, "`#[unsafe(no_mangle)]` without `extern \"C\"`")),
+            "fn" if exported => {
+                Err(self.error(line, "`#[unsafe(no_mangle)]` without `extern \"C\"`"))
+            }
             "fn" => self.body(),
             other => Err(self.error(line, format!("`{other}` begins no item that is known"))),
         }

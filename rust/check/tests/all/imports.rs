@@ -26,11 +26,11 @@ const CODE: Form = Form {
     comment: "//",
 };
 
-/// A line that brings names in as the reader of imports does not see it: in a module, over several lines, or by `open`.
+/// A line that brings names in as the reader of imports does not see it: in a module, over several lines, or by `open` without their list.
 fn hidden(line: &str, form: Form) -> bool {
     let own = line.trim_start();
     let import = own.starts_with(form.import) && (own.contains('{') || own != line);
-    import || own.starts_with("open ")
+    import || own.starts_with("open ") && !own.contains(" use {")
 }
 
 /// The names that a file imports and does not use, or imports twice. Those that an edit of it uses count as used.
@@ -158,22 +158,22 @@ fn what_counts_as_used() {
         ("a", "x = b", "a"),
         ("a, b", "x = f (b)", "a"),
         ("a, b", "x : a\nx = {b}", ""),
-        ("a", "x = aa a-b a′", "a"),
+        ("a", "x = aa a-b a'", "a"),
         ("a", "-- a", "a"),
         ("a", "x = b -- a", "a"),
         ("a", "x = b-- a", ""),
         // A field is taken without an import; a qualified name is of another module.
-        ("a", "x = t .a", "a"),
         ("a", "x = t.a", "a"),
+        ("a", "x = (f t).a", "a"),
         ("a", "x = a.b", ""),
         ("a", "x = λ y. a", ""),
         // Places for arguments.
-        ("_+_, _<_", "x = a + b", "_<_"),
-        ("_<_", "x = f _<_", ""),
-        ("_<_", "x = f (λ a b. a < b)", ""),
-        ("if_then_else_", "x = if a then b else c", ""),
-        ("if_then_else_", "x = if a then b", "if_then_else_"),
-        ("[], _∷_", "x = []", "_∷_"),
+        ("◌+◌, ◌<◌", "x = a + b", "◌<◌"),
+        ("◌<◌", "x = f ◌<◌", ""),
+        ("◌<◌", "x = f (λ a b. a < b)", ""),
+        ("if◌then◌else◌", "x = if a then b else c", ""),
+        ("if◌then◌else◌", "x = if a then b", "if◌then◌else◌"),
+        ("[], ◌∷◌", "x = []", "◌∷◌"),
         ("«a_b»", "x = «a_b»", ""),
         ("«a_b»", "x = a b", "«a_b»"),
         // Another name here.
@@ -200,12 +200,12 @@ fn what_counts_as_used() {
     for (text, line) in [
         ("use m.{a,\n  b}\n", "use m.{a,"),
         ("module _ where\n  use m.{a}\n  x = a\n", "  use m.{a}"),
-        ("open m using (a)\nx = a\n", "open m using (a)"),
+        ("open m\nx = a\n", "open m"),
     ] {
         assert_eq!(unused(text, PROOF, ""), [format!("'{line}' is not read")]);
     }
     // Code: its own imports are none of a contract's.
     let code =
-        "ghost use m.{a, b, _≡_};\nuse m::c;\n/// b\nfn f() ensures { λ r. ⌜ r ≡ a ⌝ } {} // b\n";
+        "ghost use m.{a, b, ◌≡◌};\nuse m::c;\n/// b\nfn f() ensures { result ≡ a } {} // b\n";
     assert_eq!(unused(code, CODE, ""), ["b"]);
 }

@@ -99,9 +99,9 @@ fn a_weaker_statement_is_another() {
 }
 
 const SOURCE: &str = "\
-use Prim.Native.Nat.{ℕ, _+_, _<_, _*_}
-use Rattle·other.proofs.Words.{Far as Away, near}
-use Rattle·own.specs.Rule.{next as step}
+use Rattle.std.specs.Prelude.{ℕ, ◌+◌, ◌<◌, ◌*◌}
+use Rattle.other.proofs.Words.{Far as Away, near}
+use Rattle.own.specs.Rule.{next as step}
 
 limit : ℕ
 limit = 5
@@ -137,7 +137,7 @@ module _ (k : ℕ) where
 ";
 
 const WORDS: &str = "\
-use Prim.Native.Nat.{_<_}
+use Rattle.std.specs.Prelude.{◌<◌}
 use elsewhere.Numbers.{ℕ}
 
 module _ (x : ℕ) where
@@ -203,12 +203,12 @@ Far n = x < n
 
 own/proofs/Own.antt
 
-use Prim.Native.Nat.{_+_, _<_, ℕ}
-use Rattle·own.specs.Rule.{next as step}
+use Rattle.own.specs.Rule.{next as step}
+use Rattle.std.specs.Prelude.{ℕ, ◌+◌, ◌<◌}
 
 other/proofs/Words.antt
 
-use Prim.Native.Nat.{_<_}
+use Rattle.std.specs.Prelude.{◌<◌}
 use elsewhere.Numbers.{ℕ}
 ";
     let text = said(SOURCE, WORDS, "bound").unwrap();
@@ -271,7 +271,7 @@ fn what_makes_another_statement() {
         ("Far as Away", "near as Away", false),
         ("Rule.{next as", "Other.{next as", false),
         ("{next as", "{last as", false),
-        ("_<_, _*_", "_<_", true),
+        ("◌<◌, ◌*◌", "◌<◌", true),
     ] {
         assert_eq!(SOURCE.matches(old).count(), 1, "{old}");
         let now = said(&SOURCE.replace(old, new), WORDS, "bound").unwrap();
