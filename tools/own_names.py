@@ -46,7 +46,19 @@ def antt(text):
 
 
 def rt(text):
-    return "\n".join(line_of(line, re.compile(r"//")) for line in text.split("\n"))
+    """A name that Rust could have too is turned in imports alone."""
+    def of(line):
+        if line.startswith("ghost use"):
+            return renamed(line)
+        at = line.find("//")
+        code, rest = (line[:at], line[at:]) if at >= 0 else (line, "")
+        return TOKEN.sub(lambda m: renamed(m[0]) if re.search(r"[A-Z-]", m[0]) and text_before(code, m) != "." else m[0], code) + quoted(rest)
+
+    return "\n".join(of(line) for line in text.split("\n"))
+
+
+def text_before(text, m):
+    return text[m.start() - 1] if m.start() else ""
 
 
 def edit(text):
