@@ -1,38 +1,41 @@
 # The front door: `make` lists the commands. Each is one line that can be typed as well.
 .POSIX:
-.PHONY: help check library quick gate count lint fmt test header statements dist
+.PHONY: help check library programs quick gate count lint fmt test header statements dist
 .PHONY: bench journals instructions copies costs hostile fuzz coverage faults pictures
 
 help: ## this list
 	@sed -n 's/^\([a-z]*\):.*## /\1	/p' Makefile | while IFS='	' read -r name text; do printf '  make %-14s%s\n' "$$name" "$$text"; done
 
-check: ## prove every crate that changed, and run the programs on their examples
-	rt check
+check: ## prove every crate that changed
+	rt all check
 
 library: ## prove and build the static library, target/staticlib/libabi.a
-	rt staticlib abi
+	tools/build.sh abi
+
+programs: ## prove and build the programs, target/bin
+	tools/build.sh mtrrun mtrwhy mtrsum mtrask
 
 quick: ## the gate without the edits, over what is proved: for work in between
 	.ci/run --quick
 
-gate: ## the merge gate, from nothing (20 to 25 minutes on two cores)
+gate: ## the merge gate
 	.ci/run
 
 count: ## the present numbers of crates, edits and tests, in the form of .ci/least
 	.ci/run --count
 
-lint: ## layout and lint of everything, as the gate asks for them
+lint: ## lint of everything, as the gate asks for it
 	.ci/run --lint
 
 fmt: ## rt fmt and cargo fmt
-	rt fmt
+	for crate in crates/*/; do (cd "$$crate" && rt fmt) || exit; done
 	cargo fmt --all
 
 # Where it is missing; after a change of the crates: make library.
 target/staticlib/libabi.a:
-	rt staticlib abi
+	tools/build.sh abi
 
-test: target/staticlib/libabi.a ## the Rust tests (after make check: some run the programs)
+test: target/staticlib/libabi.a ## the Rust tests (after make programs: some run them)
 	cargo test --offline --release
 
 header: ## write include/mtr.h and rust/mtr/src/raw.rs from the Rattle sources
@@ -69,7 +72,7 @@ fuzz: ## fuzz block reading and replay, for ten minutes or FOR= seconds (clang)
 coverage: ## edges of the library that the hostile host reaches (clang)
 	rust/check/fuzz/coverage.sh
 
-faults: target/staticlib/libabi.a ## set faults into a copy of the tree and see that some test notices each (after make check)
+faults: target/staticlib/libabi.a ## set faults into a copy of the tree and see that some test notices each (after make programs)
 	rust/check/faults/run.sh
 
 pictures: target/staticlib/libabi.a ## write the shipped journals and their pictures again

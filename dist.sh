@@ -38,8 +38,8 @@ cd "$root" || fail "can't enter $root"
 if [ "$build" = yes ]; then
     CARGO_TARGET_DIR=$root/target/cargo
     export CARGO_TARGET_DIR
-    rt staticlib abi || fail "rt staticlib abi failed"
-    rt check || fail "rt check failed"
+    rt all check || fail "rt all check failed"
+    tools/build.sh || fail "tools/build.sh failed"
     cargo run --quiet --offline --release -p boundary -- --check || fail "the header or the Rust declarations are out of date"
     cargo build --quiet --offline --release -p journal || fail "journal can't be built"
 fi
@@ -171,8 +171,9 @@ fi
 | library | sha256 $(sha256sum <"$new/lib/libmtr.a" | cut -d ' ' -f 1) |
 
 \`lib/libmtr.a\` is what the kit wrote after its checker had accepted every exported function and everything below it; \`bin/mtrrun\`,
-\`bin/mtrwhy\`, \`bin/mtrsum\` and \`bin/mtrask\` are what it wrote of the programs. The gate checks all proofs from nothing, tries edits that must be refused, and runs the
-tests; its last line counts what passed. What follows says what was proved, by the names of the definitions and theorems in the sources of
+\`bin/mtrwhy\`, \`bin/mtrsum\` and \`bin/mtrask\` are what it wrote of the programs. The gate checks all proofs from nothing, or takes
+over what an earlier run of it on the same machine found of the same files; it tries edits that must be refused, and runs the tests. Its
+last line counts what passed. What follows says what was proved, by the names of the definitions and theorems in the sources of
 this commit, and what was not.
 END
 } >"$new/PROVED.md" || fail "can't write PROVED.md"

@@ -1,7 +1,7 @@
 #!/bin/sh
 # Times of this tree's static library beside those of an older version's, in one program: each call in 301 rounds, both sides in each,
 # each first in turn. A ratio is the median of the rounds' ratios, new by old.
-#   rust/bench/beside.sh TREE    a checkout of the older version; both trees have target/staticlib/libabi.a (rt staticlib abi)
+#   rust/bench/beside.sh TREE    a checkout of the older version; both trees have target/staticlib/libabi.a (make library)
 set -eu
 if [ $# -ne 1 ] || [ ! -f "$1/target/staticlib/libabi.a" ]; then
     echo "usage: beside.sh TREE, with TREE/target/staticlib/libabi.a" >&2

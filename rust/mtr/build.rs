@@ -19,6 +19,6 @@ fn main() {
         }
     }
     println!(
-        "cargo::error=the static library is missing: ../lib/libmtr.a beside the crate, or target/staticlib/libabi.a (run `rt staticlib abi` at the repository's root)"
+        "cargo::error=the static library is missing: ../lib/libmtr.a beside the crate, or target/staticlib/libabi.a (run `tools/build.sh abi` at the repository's root)"
     );
 }

@@ -3,7 +3,7 @@
 //! ```text
 //! bench               every row, as ratios (bench.sh)
 //! bench one CALL N    each accepted case of a call N times (callgrind.sh)
-//! bench journals      the programs mtrrun and mtrwhy beside the model (after rt check mtrrun mtrwhy)
+//! bench journals      the programs mtrrun and mtrwhy beside the model (after make programs)
 //! bench usage         the programs mtrsum and mtrask beside mtrrun, the model and plain reading
 //! bench long          the same on a journal of 1 GiB, and the memory that they hold: about 6 GB in the folder for temporary files
 //! bench calls         the names that `bench one` takes

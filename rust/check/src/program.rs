@@ -41,7 +41,7 @@ pub fn printed(input: &[u8], pieces: &[usize]) -> Vec<u8> {
         .stdin(Stdio::piped())
         .stdout(Stdio::piped())
         .spawn()
-        .unwrap_or_else(|e| panic!("{}: {e}: run rt check mtrrun", program.display()));
+        .unwrap_or_else(|e| panic!("{}: {e}: run tools/build.sh mtrrun", program.display()));
     let mut to = child.stdin.take().unwrap();
     let mut out = Vec::new();
     std::thread::scope(|scope| {
@@ -124,7 +124,7 @@ pub fn feed(mut to: impl Write, input: &[u8], pieces: &[usize]) {
 /// If the program is missing or fails.
 pub fn answered(journal: &Path, asked: impl AsRef<OsStr>) -> Vec<u8> {
     let output = mtrwhy().arg(journal).arg(asked).output();
-    silent(output.unwrap_or_else(|e| panic!("mtrwhy: {e}: run rt check mtrwhy")))
+    silent(output.unwrap_or_else(|e| panic!("mtrwhy: {e}: run tools/build.sh mtrwhy")))
 }
 
 /// What `mtrsum` writes for the journal in a file.
@@ -134,7 +134,7 @@ pub fn answered(journal: &Path, asked: impl AsRef<OsStr>) -> Vec<u8> {
 /// If the program is missing or fails.
 pub fn summed(journal: &Path) -> Vec<u8> {
     let output = mtrsum().arg(journal).output();
-    silent(output.unwrap_or_else(|e| panic!("mtrsum: {e}: run rt check mtrsum")))
+    silent(output.unwrap_or_else(|e| panic!("mtrsum: {e}: run tools/build.sh mtrsum")))
 }
 
 /// The numbers of questions, as `mtrask` takes them.
@@ -150,7 +150,7 @@ pub fn spelt(questions: &[Question]) -> Vec<String> {
 /// If the program is missing or fails.
 pub fn asked(summary: &Path, questions: &[Question]) -> Vec<u8> {
     let output = mtrask().arg(summary).args(spelt(questions)).output();
-    silent(output.unwrap_or_else(|e| panic!("mtrask: {e}: run rt check mtrask")))
+    silent(output.unwrap_or_else(|e| panic!("mtrask: {e}: run tools/build.sh mtrask")))
 }
 
 /// A folder of its own for a test, which goes with it.

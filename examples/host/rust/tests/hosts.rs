@@ -46,7 +46,7 @@ fn replayed(name: &str) -> String {
     let done = Command::new(&program)
         .stdin(Stdio::from(journal))
         .output()
-        .unwrap_or_else(|e| panic!("{}: {e}: run rt check mtrrun", program.display()));
+        .unwrap_or_else(|e| panic!("{}: {e}: run tools/build.sh mtrrun", program.display()));
     assert!(done.status.success());
     String::from_utf8(done.stdout).unwrap()
 }

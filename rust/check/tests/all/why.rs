@@ -85,7 +85,7 @@ fn shipped_journals() {
         ask(&path, &input, &sorts, n, &n.to_string(), &mut seen);
     }
     println!("{seen:?}");
-    // What `rt check` runs.
+    // What `rt ci` runs.
     let journal = root().join("crates/mtrwhy/data/journal");
     let stdout = std::fs::read(root().join("crates/mtrwhy/stdout")).unwrap();
     assert_eq!(answered(&journal, "7"), stdout);
