@@ -1,12 +1,13 @@
 #!/bin/sh
 # Sets faults into a copy of the tree, one at a time, and sees that some test notices each: run.sh [--no-control] [NAME..], all if none is
-# named. A name is model/NAME, journal/NAME or boundary/NAME, as the files below this folder. After make check and make library.
+# named. A name is model/NAME, journal/NAME or boundary/NAME, as the files below this folder. After tools/build.sh.
 #
 # model/*.edit and journal/*.edit are edits of the sources, in the form of crates/*/must-fail; lines `old:` or `new:` that follow one
 # another are lines of one text. boundary/*.c define an exported function anew, over the library's own under the name proved_NAME. The
 # first line of each says what is wrong, with its number in RULE 10.5.
 #
-# The copy is target/faults/tree, of the files that git knows, and is compiled in less time than the tree. A fault's packages are tested one
+# The copy is of the files that git knows, and is compiled in less time than the tree. It stands outside of the checkout, in the folder TREE,
+# mtr-faults among the temporary files if not given: rt ci refuses crates that stand in target/. A fault's packages are tested one
 # by one up to the first that fails. Beforehand all tests must pass without a fault, and where a boundary's is asked for also with the
 # functions of passed_on.c, which do nothing wrong; --no-control leaves that out. target/faults/result.txt has a line for each fault: its
 # name, the package and the test that noticed it, parted by tabs; target/faults/log the last test's output. One run has the copy at a time.
@@ -15,7 +16,7 @@
 set -u
 cd "$(dirname "$0")/../../.." || exit 2
 root=$PWD out=$PWD/target/faults
-tree=$out/tree kept=$out/kept log=$out/log here=rust/check/faults
+tree=${TREE:-${TMPDIR:-/tmp}/mtr-faults} kept=$out/kept log=$out/log here=rust/check/faults
 limit=${LIMIT:-900}
 
 # In which order a place's faults are likeliest noticed. Packages that are not named follow in cargo's order.
@@ -293,11 +294,11 @@ else
 fi
 [ $# -gt 0 ] || fail "no faults"
 for file in target/staticlib/libabi.a target/bin/mtrrun target/bin/mtrwhy target/bin/mtrsum target/bin/mtrask; do
-    [ -f "$file" ] || fail "$file is missing: make check, make library"
+    [ -f "$file" ] || fail "$file is missing: tools/build.sh"
 done
 mkdir -p "$out" || fail "$out can't be written"
-mkdir "$out/lock" 2>/dev/null || fail "another run has the copy; if there is none, remove $out/lock"
-trap 'rmdir "$out/lock"' EXIT
+mkdir "$tree.lock" 2>/dev/null || fail "another run has the copy; if there is none, remove $tree.lock"
+trap 'rmdir "$tree.lock"' EXIT
 copy || fail "the tree can't be copied to $tree"
 rm -rf "$kept"
 mkdir -p "$kept" || fail "$kept can't be written"

@@ -18,7 +18,7 @@ use crate::controller::{play, Server, LENGTH};
 
 /// Commands that make a reader's shell ready.
 const SETUP: [&str; 3] = [
-    "rt staticlib abi",
+    "tools/build.sh abi",
     "cargo build --release -p journal",
     "PATH=$PWD/target/cargo/release:$PATH",
 ];
