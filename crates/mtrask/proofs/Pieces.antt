@@ -6,7 +6,6 @@ use mathlib.Core.List.{List, [], ◌++◌}
 use mathlib.Core.Bool.{Bool, true, false, not, cond, ◌&&◌}
 use native.Mathlib.Omega.{arith}
 use lib.Dec.{T, eqb}
-use lib.IntN.{ℤ}
 use lib.ListN.{length, take, length-append, length-map}
 use lib.Seq.{length-take-le, take_at}
 use borrow.Author.Tests.{eqb-true}
@@ -23,7 +22,8 @@ use Rattle.summary.specs.Pass.{unread, passed_to, settled_all, table_of}
 use Rattle.summary.proofs.Passes.{pass-whole, whole-pass}
 use Rattle.program.specs.declared.Filled.{Filled}
 use Rattle.program.specs.declared.Opened.{Opened}
-use Rattle.program.specs.declared.Opened.TheVariants.{File}
+use Rattle.program.specs.declared.Opened.TheVariants as Opening
+use Rattle.std.specs.declared.fs.File.{File}
 use Rattle.program.specs.Pieces.{is_over, Pieces}
 use Rattle.program.proofs.Reading.{cond_most, full_on}
 use Rattle.program.proofs.Writing.{front}
@@ -146,6 +146,6 @@ module _ (count : ℕ) (questions : List Question) (x : Outcome) (w : Looked (ta
   }
 
 -- for a file: the questions told about are those asked
-pub told_file : {opened : Opened} {count n handed : ℕ} {questions : List Question} (fd : ℤ) → opened ≡ File fd → Handed n questions handed
+pub told_file : {opened : Opened} {count n handed : ℕ} {questions : List Question} (file : File) → opened ≡ Opening.File file → Handed n questions handed
     → count ≡ n → Answered count questions opened handed
-told_file {handed} {questions} fd e w h = told fd e (subst (λ (k : ℕ). Handed k questions handed) (sym h) w)
+told_file {handed} {questions} file e w h = told file e (subst (λ (k : ℕ). Handed k questions handed) (sym h) w)

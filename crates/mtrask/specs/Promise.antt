@@ -2,7 +2,7 @@
 -- bytes that are judged are passed over. Of the whole run: the answers are those of some bytes, as many as were judged, and reading went on
 -- until the last read answered 0 or less; as many bytes as the lines of the answers have are handed to the write. Which texts the
 -- arguments are, which bytes the summary has, and which stand in the output, no contract can say.
-use Rattle.std.specs.Prelude.{ℕ, ◌-◌, ◌*◌, ◌/◌, ◌%◌, ◌≤◌, ◌≡◌, List, [], ◌∷◌, map, Bool, true, false, cond, ◌&&◌, ltb, leb, eqb, ℤ, length, take}
+use Rattle.std.specs.Prelude.{ℕ, ◌-◌, ◌*◌, ◌/◌, ◌%◌, ◌≤◌, ◌≡◌, List, [], ◌∷◌, map, Bool, true, false, cond, ◌&&◌, ltb, leb, eqb, length, take}
 use Rattle.text.specs.declared.Number.{Number}
 use Rattle.text.specs.declared.Number.TheVariants.{Value, Bad}
 use Rattle.text.specs.Decimal.{lines_of, number_of}
@@ -16,6 +16,7 @@ use Rattle.program.specs.declared.Opened.{Opened}
 use Rattle.program.specs.declared.Opened.TheVariants as Opening
 use Rattle.program.specs.Program.{opened_refusal}
 use Rattle.program.specs.Pieces.{Fetched, judged_of, Pieces}
+use Rattle.std.specs.declared.fs.File.{File}
 use Rattle.mtrask.specs.declared.Spoken.{Spoken}
 use Rattle.mtrask.specs.declared.Numbers.{Numbers}
 use Rattle.mtrask.specs.declared.Asked.{Asked}
@@ -113,7 +114,7 @@ pub record Handed (count : ℕ) (questions : List Question) (handed : ℕ) : Typ
 -- for what was opened: the two bytes of the answer 4 where that is its number, else the answers
 pub data Answered (count : ℕ) (questions : List Question) (opened : Opened) (handed : ℕ) : Type 0 where
   unopened : opened_refusal opened ≡ 4 → handed ≡ 2 → Answered count questions opened handed
-  told : (fd : ℤ) → opened ≡ Opening.File fd → Handed count questions handed → Answered count questions opened handed
+  told : (file : File) → opened ≡ Opening.File file → Handed count questions handed → Answered count questions opened handed
 
 -- for the questions asked: the same where the arguments are bad, else the answers to these questions, from what was opened
 pub data Served (asked : Asked) (handed : ℕ) : Type 0 where

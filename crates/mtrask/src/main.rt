@@ -10,6 +10,8 @@ ghost use Rattle.mtrask.specs.Promise.{Judged, Passed, Looked, Handed, Answered,
 
 use program::{Filled, Opened, Written};
 use sector::place::BLOCK;
+use std::fs::File;
+use std::rt::{Env, Files};
 use summary::questions::{Answer, Pass, Question};
 use text::Number;
 
@@ -26,21 +28,21 @@ const NONE: Question = Question {
 };
 
 // What an argument spells: a number, or none.
-#[derive(Drop)]
+#[derive(Clone, Copy)]
 struct Spoken {
     good: bool,
     value: u64,
 }
 
 // What the arguments after the file's name spell: good where all are numbers.
-#[derive(Drop)]
+#[derive(Clone, Copy)]
 struct Numbers {
     good: bool,
     values: [u64; 192],
 }
 
 // The questions that the arguments ask; not good where they ask none.
-#[derive(Drop)]
+#[derive(Clone, Copy)]
 struct Asked {
     good: bool,
     count: usize,
@@ -66,7 +68,7 @@ struct Held {
 
 // What the pass ended with: the lines of the answers, in the first `used` bytes of the text, how many bytes of the summary were judged for
 // them, and the last piece.
-#[derive(Drop)]
+#[derive(Clone, Copy)]
 struct Outcome {
     text: [u8; ROOM],
     used: usize,
@@ -108,7 +110,7 @@ fn value_said(number: Number) -> Spoken
 }
 
 // What so many arguments after the file's name spell.
-fn numbers_said(count: usize) -> Numbers
+fn numbers_said<R: Env>(rt: &R, count: usize) -> Numbers
     requires { count ≤ 192 }
     ensures { Said count result }
 {
@@ -116,7 +118,7 @@ fn numbers_said(count: usize) -> Numbers
     let mut good = true;
     let mut i: usize = 0;
     while i < count {
-        let number = program::number(2 + i);
+        let number = program::number(rt, 2 + i);
         let said = value_said(number);
         values[i] = said.value;
         good = good & said.good;
@@ -149,12 +151,12 @@ fn questions_from(values: [u64; 192], count: usize) -> [Question; 64]
 }
 
 // The questions.
-fn parse() -> Asked
+fn parse<R: Env>(rt: &R) -> Asked
     ensures { Parsed result }
 {
-    let all = os::arg_count();
+    let all = program::argument_count(rt);
     let count = question_count(all);
-    let said = numbers_said(3 * count);
+    let said = numbers_said(rt, 3 * count);
     let values = said.values;
     let questions = questions_from(values, count);
     Asked {
@@ -166,7 +168,7 @@ fn parse() -> Asked
 
 // Reads the next blocks and passes over them.
 fn pass_some(
-    fd: i32,
+    file: &mut File,
     pass: Pass,
     questions: [Question; 64],
     count: usize,
@@ -175,7 +177,7 @@ fn pass_some(
     requires { length input.old ≡ 16384 }
     ensures { Judged (take result.read input.new) (take count questions) pass result }
 {
-    let filled = program::fill(fd, input);
+    let filled = program::fill(file, input);
     let read = filled.judged();
     let after = pass.run(questions, count, &input[..read]);
     Piece {
@@ -188,7 +190,7 @@ fn pass_some(
 
 // Passes over the file piece by piece. A proved loop has to end, and nothing says that the file does: so pieces are counted down from a
 // number that no run uses up (2^49 pieces are 8 EiB).
-fn pass_all(fd: i32, questions: [Question; 64], count: usize) -> Held
+fn pass_all(file: &mut File, questions: [Question; 64], count: usize) -> Held
     ensures { Passed (take count questions) result }
 {
     let mut input = [0u8; INPUT];
@@ -198,7 +200,7 @@ fn pass_all(fd: i32, questions: [Question; 64], count: usize) -> Held
     let mut more = true;
     let mut pieces: u64 = 562949953421312;
     while pieces > 0 && more {
-        let piece = pass_some(fd, pass, questions, count, &mut input);
+        let piece = pass_some(file, pass, questions, count, &mut input);
         pass = piece.pass;
         read += piece.read as u64;
         last = piece.filled;
@@ -242,11 +244,11 @@ fn put_answers(out: &mut [u8], answers: [Answer; 64], count: usize) -> usize
 }
 
 // The lines of the answers from the file.
-fn look(fd: i32, questions: [Question; 64], count: usize) -> Outcome
+fn look(file: &mut File, questions: [Question; 64], count: usize) -> Outcome
     requires { count ≤ 64 }
     ensures { Looked (take count questions) result }
 {
-    let held = pass_all(fd, questions, count);
+    let held = pass_all(file, questions, count);
     let pass = held.pass;
     let last = held.last;
     let table = pass.answers(questions, count);
@@ -261,58 +263,66 @@ fn look(fd: i32, questions: [Question; 64], count: usize) -> Outcome
 }
 
 // Writes the answers. A file of which nothing can be read is a bad argument; a read that fails further on is said.
-fn tell(fd: i32, questions: [Question; 64], count: usize) -> Written
+fn tell<R: Print + Eprint>(
+    rt: &R,
+    file: &mut File,
+    questions: [Question; 64],
+    count: usize,
+) -> Written
     requires { count ≤ 64 }
     ensures { Handed count questions result.handed }
 {
-    let outcome = look(fd, questions, count);
+    let outcome = look(file, questions, count);
     let last = outcome.last;
     if last.has_failed() {
         if (outcome.read == 0) & (last.count() == 0) {
-            return program::refuse(b"mtrask: standard output");
+            return program::refuse(rt, "mtrask: standard output");
         }
-        os::fail(b"mtrask: summary");
+        program::fail(rt, "mtrask: summary", last.error());
         return Written::none();
     }
     let used = outcome.used;
     let text = outcome.text;
-    program::write(&text, used, b"mtrask: standard output")
+    program::write(rt, &text, used, "mtrask: standard output")
 }
 
 // Answers the questions from the summary that was opened.
-fn answer_for(questions: [Question; 64], count: usize, opened: Opened) -> Written
+fn answer_for<R: Print + Eprint>(
+    rt: &R,
+    questions: [Question; 64],
+    count: usize,
+    opened: Opened,
+) -> Written
     requires { count ≤ 64 }
     ensures { Answered count questions opened result.handed }
 {
-    let Opened::File(fd) = opened else {
-        return program::refuse(b"mtrask: standard output");
+    let Opened::File(mut file) = opened else {
+        return program::refuse(rt, "mtrask: standard output");
     };
-    let written = tell(fd, questions, count);
-    libc::close(fd);
-    written
+    tell(rt, &mut file, questions, count)
 }
 
 // Answers what the arguments ask, from the summary that the first one names.
-fn serve(asked: Asked) -> Written
+fn serve<R: Env + Files<File = File> + Print + Eprint>(rt: &R, asked: Asked) -> Written
     requires { asked.count ≤ 64 }
     ensures { Served asked result.handed }
 {
     if asked.good {
         let questions = asked.questions;
-        let opened = program::open(1);
-        return answer_for(questions, asked.count, opened);
+        let opened = program::open(rt, 1);
+        return answer_for(rt, questions, asked.count, opened);
     }
-    program::refuse(b"mtrask: standard output")
+    program::refuse(rt, "mtrask: standard output")
 }
 
 // The program.
-fn run() -> Written
+fn run<R: Env + Files<File = File> + Print + Eprint>(rt: &R) -> Written
     ensures { Ran result.handed }
 {
-    let asked = parse();
-    serve(asked)
+    let asked = parse(rt);
+    serve(rt, asked)
 }
 
-fn main() {
-    run();
+fn main(rt: HostRuntime) {
+    run(&rt);
 }
