@@ -27,7 +27,7 @@ fn files(folder: &Path, ends: &[&str], found: &mut Vec<PathBuf>) {
         let path = entry.unwrap().path();
         let name = path.file_name().unwrap().to_string_lossy().into_owned();
         if path.is_dir() {
-            if !name.starts_with('.') && !["target", "dist"].contains(&name.as_str()) {
+            if !name.starts_with('.') && !["target", "dist", "out"].contains(&name.as_str()) {
                 files(&path, ends, found);
             }
         } else if ends.iter().any(|end| name.ends_with(end)) {

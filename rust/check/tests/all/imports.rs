@@ -98,7 +98,11 @@ fn each(mut look: impl FnMut(&str, &str, Form, &str)) {
         let folder = folder.unwrap().path();
         let name = folder.file_name().unwrap().to_str().unwrap();
         let mut found = Vec::new();
-        sources(&folder, &mut found);
+        for part in ["src", "specs", "proofs"].map(|part| folder.join(part)) {
+            if part.is_dir() {
+                sources(&part, &mut found);
+            }
+        }
         for (path, form) in found {
             let text = fs::read_to_string(&path).unwrap();
             let own = path.strip_prefix(&folder).unwrap().to_str().unwrap();
@@ -131,13 +135,15 @@ fn every_imported_name_is_used() {
     assert!(imports > 2000, "{imports} imports");
 }
 
+/// An attribute stays in one line, as `rt fmt` lays it out.
 #[test]
 fn no_line_is_long() {
     let mut wrong = Vec::new();
     each(|name, own, _, text| {
         for (index, line) in text.lines().enumerate() {
             let length = line.chars().count();
-            if length > LINE {
+            let attribute = line.trim_start().starts_with(['#']);
+            if length > LINE && !attribute {
                 wrong.push(format!("crates/{name}/{own}:{}: {length}", index + 1));
             }
         }
