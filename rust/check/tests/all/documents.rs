@@ -129,7 +129,7 @@ fn declares(source: &str, name: &str) -> bool {
         first == name
             || first
                 .strip_prefix(name)
-                .is_some_and(|rest| rest.starts_with(['(', ':']))
+                .is_some_and(|rest| rest.starts_with(['(', ':', '<']))
     })
 }
 
