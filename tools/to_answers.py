@@ -240,7 +240,7 @@ class Function:
 
 
 def params(equation, name):
-    m = re.match(rf"{re.escape(name)}((?: {W})*) =(?=\s)(.*)$", equation, re.S)
+    m = re.match(rf"{re.escape(name)}((?: {W})*?) =(?=\s)(.*)$", equation, re.S)
     return (m[1].split(), m[2]) if m else (None, None)
 
 
