@@ -6,55 +6,63 @@
 # a second time with coverage to an object beside it. What rt makes is thereby the same as ever, which is checked.
 set -eu
 cd "$(dirname "$0")/../../.."
-root=$PWD out=$PWD/target/fuzz
-home=${RATTLE_HOME:-$(dirname "$(dirname "$(readlink -f "$(command -v rt)")")")}
-machine=$(uname -m)
+out=$PWD/target/fuzz
+home=$(dirname "$(rt doc)")
 flags=inline-8bit-counters,pc-table
 
-# A kit that is the installed one but for its clang.
-kit=$out/kit
-rm -rf "$kit" "$out/tree"
-mkdir -p "$kit/on/$machine/toolchain/bin"
-link() { # FROM TO NAME: links what is in a folder, but for one name
-    for f in "$1"/*; do
-        [ "$(basename "$f")" = "$3" ] || ln -s "$(readlink -f "$f")" "$2/$(basename "$f")"
+# Beside the checkout, since rt ci refuses links and crates that stand in target/: a kit that is the installed one but for its clang, and a
+# repository of its own, so that crates/*/out stay as they are.
+room=$(mktemp -d)
+trap 'rm -rf "$room"' EXIT
+kit=$room/kit tree=$room/tree
+link() { # FROM TO NAME..: links what is in a folder, but for these names
+    from=$1 to=$2
+    shift 2
+    mkdir -p "$to"
+    for f in "$from"/*; do
+        case " $* " in *" $(basename "$f") "*) ;; *) ln -s "$f" "$to/$(basename "$f")" ;; esac
     done
 }
-link "$home" "$kit" on
-link "$home/on/$machine" "$kit/on/$machine" toolchain
-link "$home/on/$machine/toolchain" "$kit/on/$machine/toolchain" bin
-tools=$home/on/$machine/toolchain/bin
-for f in ld.lld llvm-ar; do ln -s "$tools/$f" "$kit/on/$machine/toolchain/bin/$f"; done
-cat >"$kit/on/$machine/toolchain/bin/clang" <<END
+link "$home" "$kit" bin toolchain
+link "$home/bin" "$kit/bin" rt rtlib.py
+# rt takes the kit that it stands in.
+cp "$home/bin/rt" "$home/bin/rtlib.py" "$kit/bin/"
+link "$home/toolchain" "$kit/toolchain" bin
+link "$home/toolchain/bin" "$kit/toolchain/bin" clang
+mkdir -p "$out"
+cat >"$kit/toolchain/bin/clang" <<END
 #!/bin/sh
-"$tools/clang" "\$@" || exit
-case " \$* " in *" -O3 "*) "$tools/clang" "\$@" -fsanitize-coverage=$flags -o "$out/coverage.o" ;; esac
+"$home/toolchain/bin/clang" "\$@" || exit
+case " \$* " in *" -O3 "*) "$home/toolchain/bin/clang" "\$@" -fsanitize-coverage=$flags -o "$out/coverage.o" ;; esac
 END
-chmod +x "$kit/on/$machine/toolchain/bin/clang"
+chmod +x "$kit/toolchain/bin/clang"
 
-# A repository of its own, so that target/ stays as it is. What target/ has proved is not proved again, but for those that are compiled.
-mkdir -p "$out/tree/target"
-ln -s "$root/crates" "$out/tree/crates"
-cp crates.txt "$out/tree/"
-for f in rlib stamp log; do [ ! -d "target/$f" ] || cp -a "target/$f" "$out/tree/target/"; done
-for f in mtrrun mtrwhy mtrsum mtrask; do rm -f "$out/tree/target/stamp/$f"; done
+# What earlier checks built of the libraries is not proved again.
+mkdir -p "$tree/.git"
+cp crates.txt "$tree/"
+for crate in crates/*/; do
+    mkdir -p "$tree/$crate/out"
+    for part in src specs proofs; do [ ! -d "$crate$part" ] || cp -R "$crate$part" "$tree/$crate"; done
+    [ ! -d "${crate}out/rlib" ] || cp -R "${crate}out/rlib" "$tree/${crate}out/"
+done
 
-quiet() { # WORDS: rt on that repository, shown only if it fails
-    (cd "$out/tree" && RATTLE_HOME=$kit rt "$@") >"$out/log" 2>&1 || { cat "$out/log" && exit 1; }
+quiet() { # CRATE VERB: that kit's rt there, shown only if it fails
+    (cd "$tree/crates/$1" && "$kit/bin/rt" "$2" </dev/null) >"$out/log" 2>&1 || [ -f "$out/coverage.o" ] || { cat "$out/log" && exit 1; }
 }
-made() { # OBJECT FILE: keeps the object with coverage, and sees that what rt made is what target/ has
-    mv "$out/coverage.o" "$out/$1"
-    [ ! -f "target/$2" ] || cmp "$out/tree/target/$2" "target/$2"
+made() { # CRATE FILE OBJECT: keeps the object with coverage, and sees that what rt made is what it made in the checkout
+    mv "$out/coverage.o" "$out/$3"
+    [ ! -f "crates/$1/out/$2" ] || cmp "$tree/crates/$1/out/$2" "crates/$1/out/$2"
 }
-quiet staticlib abi
-made abi.o staticlib/libabi.a
+rm -f "$out/coverage.o"
+quiet abi lib
+made abi libabi.a abi.o
 for name in mtrrun mtrwhy mtrsum mtrask; do
-    quiet check "$name"
-    made program.o "obj/$name.o"
+    quiet "$name" run
+    made "$name" "$name.o" program.o
     # What a program has of the system is the fuzzer's, src/fuzzer.rs.
     objcopy --redefine-sym main="${name}_main" --redefine-sym read=fuzz_read --redefine-sym write=fuzz_write \
-        --redefine-sym close=fuzz_close --redefine-sym lseek=fuzz_seek --redefine-sym rattle_arg_count=fuzz_arg_count \
-        --redefine-sym rattle_arg=fuzz_arg --redefine-sym rattle_open_to_read=fuzz_open "$out/program.o" "$out/$name.o"
+        --redefine-sym close=fuzz_close --redefine-sym lseek=fuzz_seek --redefine-sym rattle_arg=fuzz_arg --redefine-sym open=fuzz_open \
+        "$out/program.o" "$out/$name.o"
 done
 
 # The harness and the model, with the same coverage and with overflow checked. A target that is named keeps the flags from build scripts.
@@ -65,5 +73,5 @@ RUSTFLAGS="--cfg fuzzing -C overflow-checks -C passes=sancov-module$(llvm level=
 
 # abi.o comes first, so that the archive's own copy of the library is not taken.
 clang -fsanitize=fuzzer "$out/abi.o" "$out/mtrrun.o" "$out/mtrwhy.o" "$out/mtrsum.o" "$out/mtrask.o" "$out/cargo/$host/release/libcheck.a" \
-    "$home/lib/libos_c.a" -o "$out/replay"
+    "$home/c/libos_c.a" "$home/c/liblibc_c.a" -o "$out/replay"
 echo "target/fuzz/replay"

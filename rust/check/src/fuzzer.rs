@@ -99,7 +99,7 @@ unsafe extern "C" fn fuzz_write(file: c_int, from: *const u8, length: usize) -> 
 ///
 /// `path` is ended by 0.
 #[no_mangle]
-unsafe extern "C" fn fuzz_open(path: *const c_char) -> c_int {
+unsafe extern "C" fn fuzz_open(path: *const c_char, _flags: c_int) -> c_int {
     // SAFETY: as the caller promises.
     let path = unsafe { CStr::from_ptr(path) };
     assert_eq!(path.to_bytes(), NAME.as_bytes());
@@ -126,13 +126,7 @@ extern "C" fn fuzz_seek(file: c_int, to: i64, from: c_int) -> i64 {
     0
 }
 
-/// The arguments, and the program's own name.
-#[no_mangle]
-extern "C" fn fuzz_arg_count() -> usize {
-    PIPES.with_borrow(|p| 1 + p.words.len())
-}
-
-/// Argument i, 1 or more.
+/// Argument i, 1 or more, or -1 where there is none.
 ///
 /// # Safety
 ///
@@ -140,7 +134,10 @@ extern "C" fn fuzz_arg_count() -> usize {
 #[no_mangle]
 unsafe extern "C" fn fuzz_arg(i: usize, to: *mut u8, length: usize) -> isize {
     PIPES.with_borrow(|p| {
-        let word = p.words[i - 1].as_bytes();
+        let Some(word) = p.words.get(i - 1) else {
+            return -1;
+        };
+        let word = word.as_bytes();
         assert!(word.len() <= length);
         // SAFETY: at most the length that the program gives.
         unsafe { to.copy_from(word.as_ptr(), word.len()) };
