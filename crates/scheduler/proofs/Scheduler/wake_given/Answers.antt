@@ -1,0 +1,14 @@
+-- `wake_given` meets its contract: the number is the refusal's, and where it is 0 the thread is the woken one.
+use Rattle.rule.specs.State.{with_thread}
+use Rattle.scheduler.specs.View.{view}
+use Rattle.scheduler.proofs.threads.Replies.{wake_number, wake_done}
+use Rattle.scheduler.proofs.Scheduler.wake_given.Goals as goal
+
+pub returns : goal.returns
+unfolding with_thread
+returns c =
+    let a = c.args in
+    let s = view a.self in
+    let code = c.wake_code-code.result in
+    wake_done s a.number code (wake_number s a.number a.ok c.requires code c.wake_code-code.ensures)
+    c.answered.result c.answered.ensures c.woken-woken.result c.woken-woken.ensures
