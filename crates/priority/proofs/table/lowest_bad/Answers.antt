@@ -8,16 +8,6 @@ use Rattle.priority.proofs.Rows.{bad_here, not_bad, none_bad}
 use Rattle.priority.proofs.Held.{held_of, in_one, not-one}
 use Rattle.priority.proofs.table.lowest_bad.Goals as goal
 
-pub returns-then-held-eq0 : goal.returns-then-held-eq0
-returns-then-held-eq0 c =
-    let w = c in
-    let s = c in
-    let at = w.loop-priority in
-    let ws = take s.args.n s.args.rows in
-    sym (at.invariant.1 ∙ bad_here ws at.priority (omega arith) (not-one (rows_with at.priority ws) (reservation_in at.priority ws)
-    (held_from 0 at.priority ws) (held_of at.priority s.args.rows s.args.n s.requires.1)
-    (λ r. omega (arith, w.held_in-held.ensures, r, c.if-held-eq0.true))))
-
 pub returns-then-held-eq-SEVERAL : goal.returns-then-held-eq-SEVERAL
 returns-then-held-eq-SEVERAL c =
     let w = c in
@@ -37,7 +27,7 @@ loop-priority-preserved c =
       omega arith,
       at.invariant.1 ∙ not_bad ws at.priority (omega arith) (in_one (rows_with at.priority ws) (reservation_in at.priority ws)
           (held_from 0 at.priority ws) (held_of at.priority s.args.rows s.args.n s.requires.1)
-          (λ e. omega (arith, w.held_in-held.ensures, e, c.if-held-eq0.false)) (λ e. omega (arith, w.held_in-held.ensures, e, c.if-held-eq-SEVERAL.false))),
+          (λ e. omega (arith, w.held_in-held.ensures, e)) (λ e. omega (arith, w.held_in-held.ensures, e))),
     )
 
 pub returns : goal.returns
