@@ -83,6 +83,13 @@ impl Repository {
     }
 }
 
+/// rt ci refuses a checkout in which another one stands.
+impl Drop for Repository {
+    fn drop(&mut self) {
+        let _ = fs::remove_dir_all(self.root.join(".git"));
+    }
+}
+
 #[test]
 fn no_library() {
     let repository = Repository::new("dist-no-library");
