@@ -65,13 +65,18 @@ pub fn bad_files(folder: &Folder) -> Vec<PathBuf> {
     bad
 }
 
-/// Other paths of a file: by a name that is no UTF-8, and the longest that can be opened; and two that are longer.
-pub fn odd_paths(folder: &Folder, path: &Path) -> ([PathBuf; 2], [PathBuf; 2]) {
-    let odd = folder.join(OsString::from_vec(vec![b'3', 0xff]));
-    symlink(path, &odd).unwrap();
+/// Other paths of a file: the longest that can be opened; and two that are longer.
+pub fn odd_paths(path: &Path) -> (PathBuf, [PathBuf; 2]) {
     let own = path.as_os_str().len();
     let long = |length: usize| format!("{}{}", "/".repeat(length - own), path.display()).into();
-    ([odd, long(4095)], [4096, 4097].map(long))
+    (long(4095), [4096, 4097].map(long))
+}
+
+/// Another path of a file, by a name that is no UTF-8: the programs' library opens no such name, and they answer 4.
+pub fn foreign_path(folder: &Folder, path: &Path) -> PathBuf {
+    let foreign = folder.join(OsString::from_vec(vec![b'3', 0xff]));
+    symlink(path, &foreign).unwrap();
+    foreign
 }
 
 /// A program on a file, its first argument, with each of these rights, by a user who is not root.

@@ -2,8 +2,8 @@
 //! nothing can be read, and for `mtrsum` one that can't be read twice. Their exit status is always 0.
 
 use crate::ends::{
-    as_nobody, bad_files, cut_off, deserted, ended, named_pipe, odd_paths, started, told,
-    unreadable, unwritten, BAD,
+    as_nobody, bad_files, cut_off, deserted, ended, foreign_path, named_pipe, odd_paths, started,
+    told, unreadable, unwritten, BAD,
 };
 use check::program::{mtrask, mtrsum, spelt, Folder};
 use model::blocks::BLOCK;
@@ -148,9 +148,15 @@ fn files() {
     assert_eq!(summed(&[unreadable()]), b"4\n");
     assert_eq!(asked(unreadable(), &QUESTION), "4\n");
     assert_eq!(asked("/dev/null", &QUESTION), "24\n");
-    let (good, long) = odd_paths(&folder, &folder.file("journal", &journal));
-    assert!(good.iter().all(|file| summed(&[file]) == summary));
+    let path = folder.file("journal", &journal);
+    let (good, long) = odd_paths(&path);
+    assert!(summed(&[good]) == summary);
     assert!(long.iter().all(|file| summed(&[file]) == b"4\n"));
+    let foreign = foreign_path(&folder, &path);
+    let four = (b"4\n".to_vec(), String::new());
+    assert_eq!(ended(mtrsum().arg(&foreign).output().unwrap()), four);
+    let question = mtrask().arg(&foreign).args(QUESTION).output().unwrap();
+    assert_eq!(ended(question), four);
 }
 
 /// A file that its reader may not open, by a user who is not root.

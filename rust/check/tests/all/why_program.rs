@@ -2,8 +2,8 @@
 //! read; a read that fails further on and an output that can't be written are said on standard error. Its exit status is always 0.
 
 use crate::ends::{
-    as_nobody, bad_files, cut_off, deserted, named_pipe, odd_paths, told, unreadable, unwritten,
-    BAD,
+    as_nobody, bad_files, cut_off, deserted, foreign_path, named_pipe, odd_paths, told, unreadable,
+    unwritten, BAD,
 };
 use check::program::{mtrwhy, Folder};
 use check::why::cut;
@@ -118,13 +118,14 @@ fn files() {
         assert_eq!(given(&[file.as_ref(), "x".as_ref()]), "4\n");
     }
     let path = folder.file("journal", &journal());
-    let (good, long) = odd_paths(&folder, &path);
-    for file in good {
-        assert_eq!(given(&[file.as_ref(), "3".as_ref()]), IDLE);
-    }
+    let (good, long) = odd_paths(&path);
+    assert_eq!(given(&[good.as_ref(), "3".as_ref()]), IDLE);
     for file in long {
         assert_eq!(given(&[file.as_ref(), "3".as_ref()]), "4\n");
     }
+    let foreign = foreign_path(&folder, &path);
+    let output = mtrwhy().arg(foreign).arg("3").output().unwrap();
+    assert_eq!(told(output), ("4\n".into(), String::new()));
 }
 
 /// A file that its reader may not open, by a user who is not root.
