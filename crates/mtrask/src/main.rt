@@ -276,14 +276,14 @@ fn tell<R: Print + Eprint>(
     let last = outcome.last;
     if last.has_failed() {
         if (outcome.read == 0) & (last.count() == 0) {
-            return program::refuse(rt, "mtrask: standard output");
+            return program::refuse(rt, b"mtrask: standard output");
         }
-        program::fail(rt, "mtrask: summary", last.error());
+        program::fail(rt, b"mtrask: summary", last.error());
         return Written::none();
     }
     let used = outcome.used;
     let text = outcome.text;
-    program::write(rt, &text, used, "mtrask: standard output")
+    program::write(rt, &text, used, b"mtrask: standard output")
 }
 
 // Answers the questions from the summary that was opened.
@@ -297,7 +297,7 @@ fn answer_for<R: Print + Eprint>(
     ensures { Answered count questions opened result.handed }
 {
     let Opened::File(mut file) = opened else {
-        return program::refuse(rt, "mtrask: standard output");
+        return program::refuse(rt, b"mtrask: standard output");
     };
     tell(rt, &mut file, questions, count)
 }
@@ -312,7 +312,7 @@ fn serve<R: Env + Files<File = File> + Print + Eprint>(rt: &R, asked: Asked) -> 
         let opened = program::open(rt, 1);
         return answer_for(rt, questions, asked.count, opened);
     }
-    program::refuse(rt, "mtrask: standard output")
+    program::refuse(rt, b"mtrask: standard output")
 }
 
 // The program.
