@@ -2,7 +2,7 @@
 -- whole run: the answer is `why` of some bytes of the number judged, and reading went on until the record's place was among them or the
 -- last read answered 0 or less; as many bytes as the answer's text has are handed to the write. Which bytes the journal has, which stand
 -- in the output, and what the arguments are, no contract can say.
-use Rattle.std.specs.Prelude.{ℕ, ◌+◌, ◌-◌, ◌*◌, ◌/◌, min, ◌≤◌, ◌≡◌, List, Bool, true, false, not, cond, ◌&&◌, eqb, ℤ, length, take}
+use Rattle.std.specs.Prelude.{ℕ, ◌+◌, ◌-◌, ◌*◌, ◌/◌, min, ◌≤◌, ◌≡◌, List, Bool, true, false, not, cond, ◌&&◌, eqb, length, take}
 use Rattle.text.specs.declared.Number.{Number}
 use Rattle.text.specs.declared.Number.TheVariants.{Value}
 use Rattle.text.specs.Decimal.{lines_of, number_refusal}
@@ -15,6 +15,7 @@ use Rattle.program.specs.declared.Opened.{Opened}
 use Rattle.program.specs.declared.Opened.TheVariants as Opening
 use Rattle.program.specs.Program.{opened_refusal}
 use Rattle.program.specs.Pieces.{Fetched, judged_of, Pieces}
+use Rattle.std.specs.declared.fs.File.{File}
 use Rattle.mtrwhy.specs.declared.Piece.{Piece}
 use Rattle.mtrwhy.specs.declared.Held.{Held}
 use Rattle.mtrwhy.specs.declared.Answer.{Answer}
@@ -72,7 +73,7 @@ pub record Wrote (asked handed : ℕ) : Type 0 where
 -- for what was opened: the two bytes of the answer 4 where that is its number, else the answer
 pub data Answered (asked : ℕ) (opened : Opened) (handed : ℕ) : Type 0 where
   unopened : opened_refusal opened ≡ 4 → handed ≡ 2 → Answered asked opened handed
-  told : (fd : ℤ) → opened ≡ Opening.File fd → Wrote asked handed → Answered asked opened handed
+  told : (file : File) → opened ≡ Opening.File file → Wrote asked handed → Answered asked opened handed
 
 -- for the number that an argument spells: the same where it is none, else the answer for this number, of what was opened
 pub data Served (number : Number) (handed : ℕ) : Type 0 where
