@@ -3,7 +3,7 @@
 -- the summary stands at the front of the area, and as many bytes as that has are handed to the write. Of the whole: a line where a block is
 -- refused or the file is bad, else the summary, up to a piece that is not what it was or a write that failed. Which bytes the journal has
 -- at each reading, and which stand in the output, no contract can say.
-use Rattle.std.specs.Prelude.{ℕ, ◌*◌, ◌-◌, min, ◌≤◌, ◌≡◌, List, [], ◌∷◌, Bool, true, false, not, cond, ◌&&◌, eqb, ℤ, length, take}
+use Rattle.std.specs.Prelude.{ℕ, ◌*◌, ◌-◌, min, ◌≤◌, ◌≡◌, List, [], ◌∷◌, Bool, true, false, not, cond, ◌&&◌, eqb, length, take}
 use Rattle.sector.specs.Places.{blocks_in}
 use Rattle.text.specs.Decimal.{line_of}
 use Rattle.events.specs.Events.{events}
@@ -14,6 +14,7 @@ use Rattle.program.specs.declared.Opened.{Opened}
 use Rattle.program.specs.declared.Opened.TheVariants as Opening
 use Rattle.program.specs.Program.{opened_refusal, no_write, no_piece}
 use Rattle.program.specs.Pieces.{Fetched, judged_of, Pieces}
+use Rattle.std.specs.declared.fs.File.{File}
 use Rattle.mtrsum.specs.declared.Look.{Look}
 use Rattle.mtrsum.specs.declared.Verdict.{Verdict}
 use Rattle.mtrsum.specs.declared.Piece.{Piece}
@@ -98,4 +99,4 @@ pub data Summarized (rewound : Bool) (r : Done) : Type 0 where
 -- for what was opened: the same answer where that is its number
 pub data Served (opened : Opened) (r : Done) : Type 0 where
   unopened : opened_refusal opened ≡ 4 → r.line.handed ≡ 2 → r.sum ≡ no_sum → Served opened r
-  served : (fd : ℤ) (rewound : Bool) → opened ≡ Opening.File fd → Summarized rewound r → Served opened r
+  served : (file : File) (rewound : Bool) → opened ≡ Opening.File file → Summarized rewound r → Served opened r

@@ -6,9 +6,11 @@ ghost use Rattle.std.specs.Prelude.{◌≡◌, [], ◌∷◌, cond, min, length,
 ghost use Rattle.text.specs.Decimal.{line_of};
 ghost use Rattle.mtrsum.specs.Promise.{whole_of, Judged, Reviewed, Sent, Summed, no_sum, Lined, Concluded, Summarized, Served};
 
-use libc::STDERR_FILENO;
 use program::{Filled, Opened, Written};
 use sector::place::BLOCK;
+use std::fs::File;
+use std::io;
+use std::io::{Seek, SeekFrom};
 use usage::Usage;
 
 // 32 blocks a piece, and their summary blocks.
@@ -18,7 +20,7 @@ const OUTPUT: usize = 32 * usage::PAIR;
 
 // A piece of the first reading: how many bytes of it were judged, the first refusal among their blocks or 0, and whether the file goes on.
 // Then what that comes from: what was read.
-#[derive(Drop)]
+#[derive(Clone, Copy)]
 struct Look {
     read: usize,
     refusal: u32,
@@ -27,7 +29,7 @@ struct Look {
 }
 
 // The first reading: how many bytes were judged, the first refusal or 0, and the last piece.
-#[derive(Drop)]
+#[derive(Clone, Copy)]
 struct Verdict {
     read: u64,
     refusal: u32,
@@ -58,7 +60,7 @@ struct Sum {
 }
 
 // A line, in the first `used` bytes of the text.
-#[derive(Drop)]
+#[derive(Clone, Copy)]
 struct Line {
     text: [u8; 21],
     used: usize,
@@ -86,11 +88,11 @@ fn is_whole(refusal: u32, read: usize, want: usize) -> bool
 }
 
 // Reads the next blocks, the first of which stands at this place, and judges them.
-fn judge_some(fd: i32, place: u64, input: &mut [u8]) -> Look
+fn judge_some(file: &mut File, place: u64, input: &mut [u8]) -> Look
     requires { length input.old ≡ 16384 }
     ensures { Judged (take result.read input.new) place result }
 {
-    let filled = program::fill(fd, input);
+    let filled = program::fill(file, input);
     let read = filled.judged();
     let refusal = usage::first_refusal(place, &input[..read]);
     Look {
@@ -103,7 +105,7 @@ fn judge_some(fd: i32, place: u64, input: &mut [u8]) -> Look
 
 // Judges the file piece by piece, up to a refused block. A proved loop has to end, and nothing says that the file does: so pieces are
 // counted down from a number that no run uses up (2^49 pieces are 8 EiB).
-fn judge(fd: i32) -> Verdict
+fn judge(file: &mut File) -> Verdict
     ensures { Reviewed result }
 {
     let mut input = [0u8; INPUT];
@@ -113,7 +115,7 @@ fn judge(fd: i32) -> Verdict
     let mut more = true;
     let mut pieces: u64 = 562949953421312;
     while pieces > 0 && more {
-        let look = judge_some(fd, read / 512, &mut input);
+        let look = judge_some(file, read / 512, &mut input);
         read += look.read as u64;
         refusal = look.refusal;
         last = look.filled;
@@ -138,42 +140,46 @@ fn wanted(left: u64) -> usize
 }
 
 // Says why the journal is not what it was: a read failed, or it was changed.
-fn say_other(failed: bool) {
-    if failed {
-        os::fail(b"mtrsum: journal");
+fn say_other<R: Eprint>(rt: &R, filled: Filled) {
+    if filled.has_failed() {
+        program::fail(rt, b"mtrsum: journal", filled.error());
         return;
     }
-    io::write_all(
-        STDERR_FILENO,
-        b"mtrsum: journal: changed while it was read\n",
-    );
+    let _ = eprintln!(rt; "mtrsum: journal: changed while it was read");
 }
 
 // Writes the summary of a piece that is what it was, the first `used` bytes of the area.
-fn send(out: &[u8], used: usize, same: bool, failed: bool) -> Written
+fn send<R: Print + Eprint>(rt: &R, out: &[u8], used: usize, same: bool, filled: Filled) -> Written
     ensures { result.handed ≡ cond same (min used (length out.now)) 0 }
 {
     if same {
-        return program::write(out, used, b"mtrsum: standard output");
+        return program::write(rt, out, used, b"mtrsum: standard output");
     }
-    say_other(failed);
+    say_other(rt, filled);
     Written::none()
 }
 
 // Reads the next blocks, of so many bytes that are left, runs them and writes their summary.
-fn sum_some(fd: i32, usage: Usage, left: u64, input: &mut [u8], out: &mut [u8]) -> Piece
+fn sum_some<R: Print + Eprint>(
+    rt: &R,
+    file: &mut File,
+    usage: Usage,
+    left: u64,
+    input: &mut [u8],
+    out: &mut [u8],
+) -> Piece
     requires { (length input.old ≡ 16384) × (length out.old ≡ 32768) }
     ensures { Sent (take result.filled.got input.new) left usage out.new result }
 {
     let want = wanted(left);
-    let filled = program::fill(fd, &mut input[..want]);
+    let filled = program::fill(file, &mut input[..want]);
     let got = filled.count();
     let ran = usage.run(&input[..got], out);
     let after = ran.usage;
     let refusal = ran.refusal;
     let same = is_whole(refusal, got, want);
     let used = usage::PAIR * ((got + 511) / BLOCK);
-    let written = send(&out[..], used, same, filled.has_failed());
+    let written = send(rt, &out[..], used, same, filled);
     Piece {
         want: want,
         same: same,
@@ -186,7 +192,7 @@ fn sum_some(fd: i32, usage: Usage, left: u64, input: &mut [u8], out: &mut [u8]) 
 
 // Writes the summary of the first `size` bytes of the file, piece by piece, up to a write that fails or a piece that is not what it was.
 // What was written by then is a front of the summary.
-fn write_summary(fd: i32, size: u64) -> Sum
+fn write_summary<R: Print + Eprint>(rt: &R, file: &mut File, size: u64) -> Sum
     ensures { Summed size result }
 {
     let mut input = [0u8; INPUT];
@@ -195,7 +201,7 @@ fn write_summary(fd: i32, size: u64) -> Sum
     let mut sent: u64 = 0;
     let mut left = size;
     while left > 0 {
-        let piece = sum_some(fd, usage, left, &mut input, &mut out);
+        let piece = sum_some(rt, file, usage, left, &mut input, &mut out);
         if !piece.more {
             let written = piece.written;
             let filled = piece.filled;
@@ -248,29 +254,30 @@ fn line_of(refusal: u32) -> Line
 }
 
 // Writes it.
-fn tell(refusal: u32) -> Written
+fn tell<R: Print + Eprint>(rt: &R, refusal: u32) -> Written
     ensures { result.handed ≡ length (line_of (refusal ∷ [])) }
 {
     let line = line_of(refusal);
     let used = line.used;
     let text = line.text;
-    program::write(&text, used, b"mtrsum: standard output")
+    program::write(rt, &text, used, b"mtrsum: standard output")
 }
 
 // Goes to the file's start. A pipe has none to go back to.
-fn rewind(fd: i32) -> bool {
-    libc::lseek(fd, 0, libc::SEEK_SET) == 0
+fn rewind(file: &mut File) -> io::Result<()> {
+    file.seek(SeekFrom::Start(0))?;
+    Ok(())
 }
 
 // After the first reading: the refusal's line, or the summary. A file of which nothing can be read is a bad argument; a read that fails
 // further on is said.
-fn conclude(fd: i32, verdict: Verdict) -> Done
+fn conclude<R: Print + Eprint>(rt: &R, file: &mut File, verdict: Verdict) -> Done
     ensures { Concluded verdict result }
 {
     let first = verdict.refusal;
     if first != 0 {
         return Done {
-            line: tell(first),
+            line: tell(rt, first),
             again: false,
             sum: none(),
         };
@@ -279,69 +286,68 @@ fn conclude(fd: i32, verdict: Verdict) -> Done
     if last.has_failed() {
         if (verdict.read == 0) & (last.count() == 0) {
             return Done {
-                line: program::refuse(b"mtrsum: standard output"),
+                line: program::refuse(rt, b"mtrsum: standard output"),
                 again: false,
                 sum: none(),
             };
         }
-        os::fail(b"mtrsum: journal");
+        program::fail(rt, b"mtrsum: journal", last.error());
         return Done {
             line: Written::none(),
             again: false,
             sum: none(),
         };
     }
-    if rewind(fd) {
+    if let Err(error) = rewind(file) {
+        program::fail(rt, b"mtrsum: journal", error);
         return Done {
             line: Written::none(),
-            again: true,
-            sum: write_summary(fd, verdict.read),
+            again: false,
+            sum: none(),
         };
     }
-    os::fail(b"mtrsum: journal");
     Done {
         line: Written::none(),
-        again: false,
-        sum: none(),
+        again: true,
+        sum: write_summary(rt, file, verdict.read),
     }
 }
 
 // Reads the file twice, where that can be done. One that has no start to go back to is a bad argument.
-fn summarize(fd: i32, rewound: bool) -> Done
+fn summarize<R: Print + Eprint>(rt: &R, file: &mut File, rewound: bool) -> Done
     ensures { Summarized rewound result }
 {
     if rewound {
-        let verdict = judge(fd);
-        return conclude(fd, verdict);
+        let verdict = judge(file);
+        return conclude(rt, file, verdict);
     }
     Done {
-        line: program::refuse(b"mtrsum: standard output"),
+        line: program::refuse(rt, b"mtrsum: standard output"),
         again: false,
         sum: none(),
     }
 }
 
 // Serves the journal that was opened.
-fn serve(opened: Opened) -> Done
+fn serve<R: Print + Eprint>(rt: &R, opened: Opened) -> Done
     ensures { Served opened result }
 {
-    let Opened::File(fd) = opened else {
+    let Opened::File(mut file) = opened else {
         return Done {
-            line: program::refuse(b"mtrsum: standard output"),
+            line: program::refuse(rt, b"mtrsum: standard output"),
             again: false,
             sum: none(),
         };
     };
-    let done = summarize(fd, rewind(fd));
-    libc::close(fd);
-    done
+    let rewound = rewind(&mut file).is_ok();
+    summarize(rt, &mut file, rewound)
 }
 
-fn main() {
-    if program::given(1) {
-        let opened = program::open(1);
-        serve(opened);
+fn main(rt: HostRuntime) {
+    if program::given(&rt, 1) {
+        let opened = program::open(&rt, 1);
+        serve(&rt, opened);
         return;
     }
-    program::refuse(b"mtrsum: standard output");
+    program::refuse(&rt, b"mtrsum: standard output");
 }
