@@ -132,7 +132,8 @@ thrice_is (suc i) = omega (arith, thrice_is i)
 
 next-triple : (i : ℕ) (l : List ℕ) → thrice i + 2 < length l
     → questions_of (take (thrice (suc i)) l)
-    ≡ questions_of (take (thrice i) l) ++ (triple (get_or l (thrice i) 0) (get_or l (suc (thrice i)) 0) (get_or l (suc (suc (thrice i))) 0) ∷ [])
+    ≡ questions_of (take (thrice i) l)
+    ++ (triple (get_or l (thrice i) 0) (get_or l (suc (thrice i)) 0) (get_or l (suc (suc (thrice i))) 0) ∷ [])
 unfolding questions_of
 next-triple i [] h = absurd (omega arith)
 next-triple i (t ∷ []) h = absurd (omega arith)

@@ -146,6 +146,6 @@ module _ (count : ℕ) (questions : List Question) (x : Outcome) (w : Looked (ta
   }
 
 -- for a file: the questions told about are those asked
-pub told_file : {opened : Opened} {count n handed : ℕ} {questions : List Question} (file : File) → opened ≡ Opening.File file → Handed n questions handed
-    → count ≡ n → Answered count questions opened handed
+pub told_file : {opened : Opened} {count n handed : ℕ} {questions : List Question} (file : File) → opened ≡ Opening.File file
+    → Handed n questions handed → count ≡ n → Answered count questions opened handed
 told_file {handed} {questions} file e w h = told file e (subst (λ (k : ℕ). Handed k questions handed) (sym h) w)

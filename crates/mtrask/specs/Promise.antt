@@ -2,7 +2,8 @@
 -- bytes that are judged are passed over. Of the whole run: the answers are those of some bytes, as many as were judged, and reading went on
 -- until the last read answered 0 or less; as many bytes as the lines of the answers have are handed to the write. Which texts the
 -- arguments are, which bytes the summary has, and which stand in the output, no contract can say.
-use Rattle.std.specs.Prelude.{ℕ, ◌-◌, ◌*◌, ◌/◌, ◌%◌, ◌≤◌, ◌≡◌, List, [], ◌∷◌, map, Bool, true, false, cond, ◌&&◌, ltb, leb, eqb, length, take}
+use Rattle.std.specs.Prelude.{ℕ, ◌-◌, ◌*◌, ◌/◌, ◌%◌, ◌≤◌, ◌≡◌, List, [], ◌∷◌, map, length, take}
+use Rattle.std.specs.Prelude.{Bool, true, false, cond, ◌&&◌, ltb, leb, eqb}
 use Rattle.text.specs.declared.Number.{Number}
 use Rattle.text.specs.declared.Number.TheVariants.{Value, Bad}
 use Rattle.text.specs.Decimal.{lines_of, number_of}

@@ -1,7 +1,7 @@
 -- A file that is read piece by piece: what every program that reads one promises of it. A contract can't speak of the file, but of values:
--- how many bytes a piece has, and what the last read of it answered. That is the number of bytes that it gave, 0 at the end of the file, or
--- one below 0 where it failed; and 1 where no read was made. That this number is the system's own is read off `fill`, and that the bytes are
--- the file's no contract can say.
+-- how many bytes a piece has, and what the last read of it answered. That is the number of bytes that it gave, 0 at the end of the file,
+-- or a number below 0 where it failed; and 1 where no read was made. That this number is the system's own is read off `fill`, and that the
+-- bytes are the file's no contract can say.
 use Rattle.std.specs.Prelude.{ℕ, ◌+◌, ◌*◌, ◌/◌, ◌≤◌, ◌≡◌, Bool, cond, ◌||◌, T, ltb, leb, pos}
 use Rattle.std.specs.Int.Signed.{lt_z, le_z}
 use Rattle.program.specs.declared.Filled.{Filled}

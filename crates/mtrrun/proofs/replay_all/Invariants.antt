@@ -1,6 +1,6 @@
--- The replay held is that left by the bytes judged (`Sofar`), and the pieces are counted (`Count`); where the input goes on all of them were
--- full, and where it does not, that has one of its reasons; both areas keep their lengths; and the count of bytes has room for the pieces
--- that may come.
+-- The replay held is that left by the bytes judged (`Sofar`), and the pieces are counted (`Count`); where the input goes on all of them
+-- were full, and where it does not, that has one of its reasons; both areas keep their lengths; and the count of bytes has room for the
+-- pieces that may come.
 use Rattle.std.proofs.Common.{◌≡◌, ◌+◌, ◌*◌, ◌%◌, ◌≤◌, ◌<◌, length, true, false}
 use Rattle.std.specs.Prelude.{T, not, ◌||◌}
 use Rattle.replay.specs.View.{seen}

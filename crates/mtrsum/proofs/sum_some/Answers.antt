@@ -1,11 +1,13 @@
 -- What was read, of what was wanted, is run, the area has room, and the summary is handed on where all the bytes came and none of their
 -- blocks is refused.
-use Rattle.std.proofs.Common.{◌≡◌, ℕ, ◌+◌, ◌*◌, ◌/◌, ◌≤◌, min, List, ◌++◌, Bool, length, take, drop, sym, ap, subst, ◌∙◌, arith, rules, length-append, length-drop}
+use Rattle.std.proofs.Common.{◌≡◌, ℕ, ◌+◌, ◌*◌, ◌/◌, ◌≤◌, min, List, ◌++◌, Bool}
+use Rattle.std.proofs.Common.{length, take, drop, sym, ap, subst, ◌∙◌, arith, rules, length-append, length-drop}
 use Rattle.std.specs.Prelude.{◌&&◌, cond}
 use lib.Seq.{length-take-le}
 use Rattle.program.specs.Pieces.{Fetched}
 use Rattle.sector.specs.Places.{blocks_in}
 use Rattle.usage.proofs.Pieces.{ran_is, front_is}
+use Rattle.mtrsum.specs.declared.Piece.{Piece}
 use Rattle.mtrsum.specs.Promise.{whole_of, Sent}
 use Rattle.mtrsum.proofs.Pieces.{whole_is}
 use Rattle.mtrsum.proofs.sum_some.Goals as goal
@@ -48,8 +50,17 @@ returns g c =
     let want_is = c.wanted-want.ensures in
     let whole = c.is_whole-same.ensures in
     let count = c.count-got.ensures in
+    let piece : Piece =
+    record {
+      want = want;
+      same = same;
+      more = same && c.is_done.result;
+      usage = ran.result.usage;
+      written = c.send-written.result;
+      filled = filled;
+    } in
     subst
-    (λ (k : ℕ). Sent (take k area) c.args.left c.args.usage out (record { want = want; same = same; more = same && c.is_done.result; usage = ran.result.usage; written = c.send-written.result; filled = filled }))
+    (λ (k : ℕ). Sent (take k area) c.args.left c.args.usage out piece)
     count
     (record {
       want = want_is;
