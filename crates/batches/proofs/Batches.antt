@@ -22,7 +22,8 @@ pub record Stretched (rs : List Record) (cs : List Call) (s : State) : Type 0 wh
   pub halted : batch_halted 0 rs ≡ 0
 
 -- a record that asks for a call is served by it, and halts nothing
-one : (r : Record) (c : Call) (s : State) → request_of r ≡ calls c → (served 0 (request_of r) s ≡ step c s) × (halted_by 0 (request_of r) ≡ 0)
+one : (r : Record) (c : Call) (s : State) → request_of r ≡ calls c
+    → (served 0 (request_of r) s ≡ step c s) × (halted_by 0 (request_of r) ≡ 0)
 unfolding served halted_by
 one r c s e = (ap (λ (q : Request). served 0 q s) e, ap (λ (q : Request). halted_by 0 q) e)
 

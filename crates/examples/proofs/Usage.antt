@@ -20,7 +20,8 @@ use Rattle.usage.specs.Usage.{charged_by, ticks_in, count_at, first_refusal, eve
 use Rattle.examples.specs.Usage.{began, again, used, asked, usage_table}
 
 unfoldable parts : Unit {0}
-unfolding same sums is_sealed used_by has_form block_of body_of parts_of read_of is_block records_in all_form start_refusal start_reply request_of
+unfolding same sums is_sealed used_by has_form block_of body_of parts_of read_of is_block records_in all_form start_refusal start_reply
+    request_of
 parts = tt
 
 unfoldable replays : Unit {0}
@@ -28,7 +29,8 @@ unfolding start_on served halted_by reply_to after after_all read_at is_read nex
 replays = tt
 
 unfoldable counted : Unit {0}
-unfolding events_of block_events events_to events is_call does runs is_report charges charged_by ticks_in count_at first_refusal events_between
+unfolding events_of block_events events_to events is_call does runs is_report charges charged_by ticks_in count_at first_refusal
+    events_between
     usage_of
 counted = tt
 

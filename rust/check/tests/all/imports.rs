@@ -9,9 +9,6 @@ use std::path::{Path, PathBuf};
 /// The longest line, in characters.
 const LINE: usize = 140;
 
-/// How many lines are longer: names got longer when they were respelled (docs/PORT.md). None is added.
-const LONGER: usize = 106;
-
 /// How a file says it: what an import begins with, and a comment.
 #[derive(Clone, Copy)]
 struct Form {
@@ -138,24 +135,21 @@ fn every_imported_name_is_used() {
     assert!(imports > 2000, "{imports} imports");
 }
 
-/// An attribute stays in one line, as `rt fmt` lays it out.
 #[test]
 fn no_line_is_long() {
     let mut wrong = Vec::new();
     each(|name, own, _, text| {
         for (index, line) in text.lines().enumerate() {
             let length = line.chars().count();
-            let attribute = line.trim_start().starts_with(['#']);
-            if length > LINE && !attribute {
+            if length > LINE {
                 wrong.push(format!("crates/{name}/{own}:{}: {length}", index + 1));
             }
         }
     });
     wrong.sort();
     assert!(
-        wrong.len() <= LONGER,
-        "{} over {LINE} characters, and {LONGER} may be:\n{}",
-        wrong.len(),
+        wrong.is_empty(),
+        "over {LINE} characters:\n{}",
         wrong.join("\n")
     );
 }

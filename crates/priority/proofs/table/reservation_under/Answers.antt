@@ -83,4 +83,5 @@ pub returns : goal.returns
 returns c = found (goal.at.returns c).After-held_in-reservation
 
 pub overflow_cast-reservation : goal.overflow_cast-reservation
-overflow_cast-reservation c = record { fits = omega (arith, c.held_in-reservation.ensures, (one (goal.at.overflow_cast-reservation c).After-held_in-reservation).1) }
+overflow_cast-reservation c =
+    record { fits = omega (arith, c.held_in-reservation.ensures, (one (goal.at.overflow_cast-reservation c).After-held_in-reservation).1) }

@@ -22,7 +22,8 @@ use Rattle.scheduler.specs.View.{view}
 use Rattle.scheduler.proofs.threads.Dispatch.{dispatch_number, looking, look_small, look_most, dispatch_done}
 use Rattle.scheduler.proofs.Scheduler.dispatch_given.Invariants.{beyond}
 use Rattle.scheduler.proofs.Scheduler.dispatch_given.Goals as goal
-use Rattle.scheduler.proofs.Scheduler.dispatch_given.Goals.{After-searched-count, else-loop-before-test, then-loop-before-test+then-status-eq-RUNNABLE}
+use Rattle.scheduler.proofs.Scheduler.dispatch_given.Goals.{After-searched-count, else-loop-before-test}
+use Rattle.scheduler.proofs.Scheduler.dispatch_given.Goals.{then-loop-before-test+then-status-eq-RUNNABLE}
 
 -- after the number and the list's part that is looked at
 module _ (c : After-searched-count) where
