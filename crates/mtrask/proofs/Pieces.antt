@@ -17,7 +17,7 @@ use Rattle.sector.proofs.Places.{whole-blocks}
 use Rattle.summary.specs.declared.questions.Question.{Question}
 use Rattle.summary.specs.declared.questions.Answer.{Answer}
 use Rattle.summary.specs.declared.questions.Pass.{Pass}
-use Rattle.summary.specs.Questions.{answer_of_lem, answers_of}
+use Rattle.summary.specs.Questions.{answer_of, answers_of}
 use Rattle.summary.specs.Pass.{unread, passed_to, settled_all, table_of}
 use Rattle.summary.proofs.Passes.{pass-whole, whole-pass}
 use Rattle.program.specs.declared.Filled.{Filled}
@@ -89,7 +89,7 @@ blocks_most a h = omega (arith, h)
 
 as_many : (bytes : List ℕ) (qs : List Question) → length (answers_of bytes qs) ≡ length qs
 unfolding answers_of
-as_many bytes qs = length-map qs (answer_of_lem bytes)
+as_many bytes qs = length-map qs (answer_of bytes)
 
 table-front : (xs : List Answer) (count : ℕ) → length xs ≡ count → take count (table_of xs) ≡ xs
 unfolding table_of

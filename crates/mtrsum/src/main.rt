@@ -10,7 +10,7 @@ use program::{Filled, Opened, Written};
 use sector::place::BLOCK;
 use std::fs::File;
 use std::io;
-use std::io::{Seek, SeekFrom};
+use std::io::{ErrorKind, Seek, SeekFrom};
 use usage::Usage;
 
 // 32 blocks a piece, and their summary blocks.
@@ -265,8 +265,10 @@ fn tell<R: Print + Eprint>(rt: &R, refusal: u32) -> Written
 
 // Goes to the file's start. A pipe has none to go back to.
 fn rewind(file: &mut File) -> io::Result<()> {
-    file.seek(SeekFrom::Start(0))?;
-    Ok(())
+    if file.seek(SeekFrom::Start(0))? == 0 {
+        return Ok(());
+    }
+    Err(io::Error::from(ErrorKind::NotSeekable))
 }
 
 // After the first reading: the refusal's line, or the summary. A file of which nothing can be read is a bad argument; a read that fails

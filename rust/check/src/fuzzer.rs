@@ -134,13 +134,19 @@ extern "C" fn fuzz_seek(file: c_int, to: i64, from: c_int) -> i64 {
 #[no_mangle]
 unsafe extern "C" fn fuzz_arg(i: usize, to: *mut u8, length: usize) -> isize {
     PIPES.with_borrow(|p| {
-        let Some(word) = p.words.get(i - 1) else {
+        let word = match i.checked_sub(1) {
+            None => Some("program"),
+            Some(at) => p.words.get(at).map(String::as_str),
+        };
+        let Some(word) = word else {
             return -1;
         };
         let word = word.as_bytes();
-        assert!(word.len() <= length);
         // SAFETY: at most the length that the program gives.
-        unsafe { to.copy_from(word.as_ptr(), word.len()) };
+        unsafe { to.copy_from(word.as_ptr(), word.len().min(length)) };
+        if word.len() > length {
+            return -2;
+        }
         word.len() as isize
     })
 }

@@ -26,11 +26,11 @@ const CODE: Form = Form {
     comment: "//",
 };
 
-/// A line that brings names in as the reader of imports does not see it: in a module, over several lines, or by `open` without their list.
+/// A line that brings names in as the reader of imports does not see it: in a module, over several lines, or by `open`.
 fn hidden(line: &str, form: Form) -> bool {
     let own = line.trim_start();
     let import = own.starts_with(form.import) && (own.contains('{') || own != line);
-    import || own.starts_with("open ") && !own.contains(" use {")
+    import || own.starts_with("open ")
 }
 
 /// The names that a file imports and does not use, or imports twice. Those that an edit of it uses count as used.
@@ -204,7 +204,7 @@ fn what_counts_as_used() {
     for (text, line) in [
         ("use m.{a,\n  b}\n", "use m.{a,"),
         ("module _ where\n  use m.{a}\n  x = a\n", "  use m.{a}"),
-        ("open m\nx = a\n", "open m"),
+        ("open m use {a}\nx = a\n", "open m use {a}"),
     ] {
         assert_eq!(unused(text, PROOF, ""), [format!("'{line}' is not read")]);
     }
