@@ -28,4 +28,4 @@ returns c =
     remove_done s a.number code (remove_number s a.number a.ok c.requires code c.remove_code-code.ensures)
     c.answered.result c.answered.ensures
     c.has_reservation.result c.has_reservation.ensures c.freed-freed.result c.freed-freed.ensures
-    c.requeued-moved.result c.requeued-moved.ensures c.count_after.result c.count_after.ensures
+    c.relisted-moved.result c.relisted-moved.ensures c.count_after.result c.count_after.ensures
