@@ -90,25 +90,25 @@
  * by up to 24 from one run to another.
  *
  *     call                     stack    instructions
- *     mtr_start                 3320            3228
- *     mtr_open                 13464            5017
- *     mtr_close                13448            4995
- *     mtr_admit                13400            5016
- *     mtr_admit_best_effort    13320            4815
- *     mtr_remove               13448            5063
- *     mtr_wake                 13320            4827
- *     mtr_dispatch             13320            6001
- *     mtr_report               13448            5183
- *     mtr_change               13448            5037
- *     mtr_sound                 6808            4107
+ *     mtr_start                 3368            3230
+ *     mtr_open                 13416            5040
+ *     mtr_close                13464            4999
+ *     mtr_admit                13448            5038
+ *     mtr_admit_best_effort    13336            4843
+ *     mtr_remove               13480            5130
+ *     mtr_wake                 13336            4857
+ *     mtr_dispatch             13336            6022
+ *     mtr_report               13432            5211
+ *     mtr_change               13464            5041
+ *     mtr_sound                 6808            4117
  *     mtr_priority                16               8
- *     mtr_subtree               8764            6818
+ *     mtr_subtree               8152            6764
  *     mtr_priority_under         564            1771
- *     mtr_lag                  13320            4821
- *     mtr_share                13312            4822
- *     mtr_roster               16184           41086
- *     mtr_write_block            824            3192
- *     mtr_read_block            1220            3809
+ *     mtr_lag                  13320            4833
+ *     mtr_share                13312            4834
+ *     mtr_roster               13624           40533
+ *     mtr_write_block            856            3347
+ *     mtr_read_block            1204            3560
  */
 #ifndef MTR_H
 #define MTR_H
