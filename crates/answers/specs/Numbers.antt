@@ -2,6 +2,29 @@
 use Rattle.std.specs.Prelude.{ℕ}
 use Rattle.answers.specs.declared.Answer.{Answer}
 use Rattle.answers.specs.declared.Answer.TheVariants.{Accepted, Refused, Idle, Run}
+use Rattle.answers.specs.declared.Refusal.{Refusal}
+use Rattle.answers.specs.declared.Refusal.TheVariants as refusal
+
+-- RULE 6.9: the number of each refusal
+abbrev pub refusal_number : Refusal → ℕ
+refusal_number refusal.Settings = 1
+refusal_number refusal.NoGroup = 2
+refusal_number refusal.GroupNumber = 3
+refusal_number refusal.Amount = 4
+refusal_number refusal.NoRoom = 5
+refusal_number refusal.GroupInUse = 6
+refusal_number refusal.NoThread = 7
+refusal_number refusal.AlreadyAdmitted = 8
+refusal_number refusal.ThreadRunning = 9
+refusal_number refusal.NotBlocked = 10
+refusal_number refusal.NothingRunning = 11
+refusal_number refusal.Busy = 12
+refusal_number refusal.OverSlice = 13
+refusal_number refusal.Reason = 14
+refusal_number refusal.MeterFull = 15
+refusal_number refusal.Unsound = 16
+refusal_number refusal.UnknownKind = 19
+refusal_number refusal.Halted = 20
 
 abbrev pub number_of : Answer → ℕ
 number_of Accepted = 0
