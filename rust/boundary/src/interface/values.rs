@@ -3,10 +3,44 @@
 use super::resolve::Work;
 use super::{Constant, Form};
 use crate::names::{self, Names, Value, VERSION};
-use crate::Error;
+use crate::{parse, Error};
 
 /// Where the names stand.
 const OWN: &str = "rust/boundary/src/names.rs";
+
+/// A constant of a source by its name outside.
+fn shown(start: &str, name: &str, constant: &parse::Constant) -> Constant {
+    Constant {
+        name: format!("{start}{name}"),
+        value: constant.value,
+        doc: constant.doc.join(" "),
+    }
+}
+
+/// A variant's name as that of a constant: NoGroup is NO_GROUP.
+fn capitals(name: &str) -> String {
+    let mut out = String::new();
+    for c in name.chars() {
+        if c.is_ascii_uppercase() && !out.is_empty() {
+            out.push('_');
+        }
+        out.push(c.to_ascii_uppercase());
+    }
+    out
+}
+
+/// There are some, and each has a comment.
+fn described(all: Vec<Constant>, file: &str, of: &str) -> Result<Vec<Constant>, Error> {
+    if let Some(constant) = all.iter().find(|c| c.doc.is_empty()) {
+        let text = format!("{} of {file} has no comment", constant.name);
+        return Err(Error::at(OWN, 1, text));
+    }
+    if all.is_empty() {
+        let text = format!("{file} has no public constant of type {of}");
+        return Err(Error::at(OWN, 1, text));
+    }
+    Ok(all)
+}
 
 impl Work<'_> {
     /// The constants of a family, in its order.
@@ -22,21 +56,23 @@ impl Work<'_> {
                 Names::All { file, start, of } => {
                     let source = self.load(file, OWN, 1)?;
                     let all = source.constants.iter().filter(|c| c.public && c.of == of);
-                    let before = found.len();
-                    found.extend(all.map(|c| Constant {
-                        name: format!("{start}{}", c.name),
-                        value: c.value,
-                        doc: c.doc.join(" "),
-                    }));
-                    let blank = found[before..].iter().find(|c| c.doc.is_empty());
-                    if let Some(constant) = blank {
-                        let text = format!("{} of {file} has no comment", constant.name);
-                        return Err(Error::at(OWN, 1, text));
-                    }
-                    if found.len() == before {
-                        let text = format!("{file} has no public constant of type {of}");
-                        return Err(Error::at(OWN, 1, text));
-                    }
+                    let all = all.map(|c| shown(start, &c.name, c)).collect();
+                    found.extend(described(all, file, of)?);
+                }
+                Names::Variants {
+                    file,
+                    start,
+                    of,
+                    but,
+                } => {
+                    let source = self.load(file, OWN, 1)?;
+                    let all = source.constants.iter().filter(|c| c.public && c.of == of);
+                    let all = all.filter_map(|c| {
+                        let name = c.name.rsplit("::").next()?;
+                        (!but.contains(&name)).then(|| shown(start, &capitals(name), c))
+                    });
+                    let all = all.collect();
+                    found.extend(described(all, file, of)?);
                 }
             }
         }

@@ -34,6 +34,14 @@ impl Parser {
         Ok(())
     }
 
+    /// Passes everything up to a block in braces, and the block.
+    pub(super) fn past_block(&mut self) -> Result<(), Error> {
+        while !self.is("{") {
+            self.next("`{`")?;
+        }
+        self.block()
+    }
+
     /// Passes everything up to a mark outside of braces, and the mark.
     pub(super) fn past(&mut self, end: &str) -> Result<(), Error> {
         loop {

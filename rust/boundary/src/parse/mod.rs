@@ -70,17 +70,24 @@ impl Parser {
             "const" => self.constant(doc, public, owner),
             "enum" => {
                 let name = self.word("an enum's name")?;
+                self.variants(public, &name)?;
                 self.file.enums.push(name);
-                self.block()
+                Ok(())
             }
             "struct" => {
                 let item = self.structure(doc, fixed, public, line)?;
                 self.file.structs.push(item);
                 Ok(())
             }
+            // A trait, and what a type has of one: nothing of it is at the boundary.
+            "trait" => self.past_block(),
+            "type" => self.past(";"),
+            "impl" if self.is("<") => self.past_block(),
             "impl" => {
                 let owner = self.word("a type's name")?;
-                self.expect("{")?;
+                if !self.passes("{") {
+                    return self.past_block();
+                }
                 while !self.passes("}") {
                     self.item(Some(&owner))?;
                 }
@@ -158,8 +165,17 @@ impl Parser {
         line: usize,
     ) -> Result<Struct, Error> {
         let name = self.word("a struct's name")?;
-        self.expect("{")?;
-        let fields = self.fields("}")?;
+        // A unit, a struct of a tuple and one with parameters have no form at the boundary.
+        let (fixed, fields) = if self.is("(") || self.is(";") {
+            self.past(";")?;
+            (false, Vec::new())
+        } else if self.is("<") {
+            self.past_block()?;
+            (false, Vec::new())
+        } else {
+            self.expect("{")?;
+            (fixed, self.fields("}")?)
+        };
         Ok(Struct {
             doc,
             fixed,
@@ -170,10 +186,52 @@ impl Parser {
         })
     }
 
+    /// The variants of an enum; those with a number are constants, as `Refusal::Settings`.
+    fn variants(&mut self, public: bool, owner: &str) -> Result<(), Error> {
+        self.expect("{")?;
+        while !self.passes("}") {
+            let doc = self.doc();
+            let name = self.word("a variant's name")?;
+            if self.passes("=") {
+                let Kind::Number(value) = self.next("a variant's number")? else {
+                    self.at -= 1;
+                    return Err(self.missing("a variant's number"));
+                };
+                self.file.constants.push(Constant {
+                    doc,
+                    public,
+                    name: format!("{owner}::{name}"),
+                    of: owner.to_string(),
+                    value,
+                });
+            } else if self.is("{") {
+                self.block()?;
+            } else if self.passes("(") {
+                self.past(")")?;
+            }
+            if !self.passes(",") {
+                self.expect("}")?;
+                break;
+            }
+        }
+        Ok(())
+    }
+
     /// Fields or parameters up to the closing mark.
     fn fields(&mut self, end: &str) -> Result<Vec<Field>, Error> {
         let mut fields = Vec::new();
         while !self.passes(end) {
+            // A ghost field has no form in memory.
+            if self.passes_word("ghost") {
+                self.word("a name")?;
+                self.expect(":")?;
+                self.block()?;
+                if !self.passes(",") {
+                    self.expect(end)?;
+                    break;
+                }
+                continue;
+            }
             let doc = self.doc();
             let public = self.visibility()?;
             self.passes_word("mut");
@@ -293,6 +351,11 @@ impl Parser {
             let contract = self.is_word("requires") || self.is_word("ensures");
             if self.is("{") {
                 return self.block();
+            }
+            // A value that the clauses share.
+            if self.passes_word("ghost") {
+                self.past_block()?;
+                continue;
             }
             self.next("a function's body")?;
             if contract {

@@ -45,3 +45,43 @@ fn exports_are_marked_whole() {
         "a.rt:2: `#[unsafe(no_mangle)]` without `extern \"C\"`"
     );
 }
+
+/// An enum's numbers are constants; what can't pass at the boundary is passed over.
+#[test]
+fn numbers_of_an_enum() {
+    let source = "
+        // Why.
+        pub enum Refusal {
+            // The first.
+            NoGroup = 2,
+            Odd(u8),
+            Pair { a: u8 },
+            // The last.
+            Unsound = 0x10,
+        }
+        impl From<Refusal> for u32 { ghost from_gives = { a }; fn from(r: Refusal) -> u32 { r as u32 } }
+        impl<T> Other<T> { fn f() {} }
+        trait One { fn f(); }
+        type Answer = Result<(), Refusal>;
+        struct Unknown(pub u8);
+        struct Lent<'a> { area: &'a [u8] }
+        struct Held { pub x: u8, ghost small: { x < 3 } }
+        fn g() ghost top: { T } requires { a } {}
+        pub const LAST: u8 = 3;
+    ";
+    let file = parse("a.rt", source).unwrap();
+    let found: Vec<_> = file
+        .constants
+        .iter()
+        .map(|c| (&c.name[..], &c.of[..], c.value, c.doc.join(" ")))
+        .collect();
+    assert_eq!(
+        found,
+        [
+            ("Refusal::NoGroup", "Refusal", 2, "The first.".to_string()),
+            ("Refusal::Unsound", "Refusal", 16, "The last.".to_string()),
+            ("LAST", "u8", 3, String::new()),
+        ]
+    );
+    assert_eq!(file.enums, ["Refusal"]);
+}
