@@ -9,7 +9,7 @@ use lib.Dec.{ltb, leb, eqb}
 use lib.ListN.{length, get_or, set, take, length-append}
 use lib.Seq.{take-suc-set}
 use borrow.Author.Tests.{le-leb, lt-leb, eq-eqb, ne_eqb, leb-true}
-use Rattle.text.specs.declared.Number.{Number}
+use Rattle.std.specs.Prelude.{Option}
 use Rattle.text.specs.Decimal.{number_of}
 use Rattle.summary.specs.declared.questions.Question.{Question}
 use Rattle.program.specs.Program.{Spelt}
@@ -100,7 +100,7 @@ values_more [] t = refl
 values_more (x ∷ ts) t = ap (λ (l : List ℕ). (spoken_as (number_of x)).value ∷ l) (values_more ts t)
 
 -- one argument more
-pub said_more : (i : ℕ) (good : Bool) (values : List ℕ) (number : Number) (v : Spoken) → Said i (numbers good values) → i < length values
+pub said_more : (i : ℕ) (good : Bool) (values : List ℕ) (number : Option ℕ) (v : Spoken) → Said i (numbers good values) → i < length values
     → Spelt number → v ≡ spoken_as number → Said (i + 1) (numbers (good && v.good) (set values i v.value))
 said_more i good values number v w h s e =
     let t = s.text in

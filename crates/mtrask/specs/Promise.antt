@@ -3,9 +3,7 @@
 -- until the last read answered 0 or less; as many bytes as the lines of the answers have are handed to the write. Which texts the
 -- arguments are, which bytes the summary has, and which stand in the output, no contract can say.
 use Rattle.std.specs.Prelude.{ℕ, ◌-◌, ◌*◌, ◌/◌, ◌%◌, ◌≤◌, ◌≡◌, List, [], ◌∷◌, map, length, take}
-use Rattle.std.specs.Prelude.{Bool, true, false, cond, ◌&&◌, ltb, leb, eqb}
-use Rattle.text.specs.declared.Number.{Number}
-use Rattle.text.specs.declared.Number.TheVariants.{Value, Bad}
+use Rattle.std.specs.Prelude.{Bool, true, false, cond, ◌&&◌, ltb, leb, eqb, Option, Some, None}
 use Rattle.text.specs.Decimal.{lines_of, number_of}
 use Rattle.sector.specs.Places.{blocks_in}
 use Rattle.summary.specs.declared.questions.Question.{Question}
@@ -33,9 +31,9 @@ unfoldable pub question_count : ℕ → ℕ
 question_count all = cond (leb 5 all && (leb all 194 && eqb ((all - 2) % 3) 0)) ((all - 2) / 3) 0
 
 -- whether a text spells a number, and the number; 0 where it spells none
-unfoldable pub spoken_as : Number → Spoken
-spoken_as (Value n) = record { good = true; value = n }
-spoken_as Bad = record { good = false; value = 0 }
+unfoldable pub spoken_as : Option ℕ → Spoken
+spoken_as (Some n) = record { good = true; value = n }
+spoken_as None = record { good = false; value = 0 }
 
 unfoldable pub all_spell : List (List ℕ) → Bool
 all_spell [] = true

@@ -13,7 +13,6 @@ use sector::place::BLOCK;
 use std::fs::File;
 use std::rt::{Env, Files};
 use summary::questions::{Answer, Pass, Question};
-use text::Number;
 
 // 32 blocks a piece.
 const INPUT: usize = 32 * BLOCK;
@@ -94,10 +93,10 @@ fn question_count(all: usize) -> usize
 }
 
 // A number as an argument says it; 0 where it says none.
-fn value_said(number: Number) -> Spoken
+fn value_said(number: Option<u64>) -> Spoken
     ensures { result ≡ spoken_as number }
 {
-    let Number::Value(n) = number else {
+    let Some(n) = number else {
         return Spoken {
             good: false,
             value: 0,

@@ -3,8 +3,7 @@
 -- last read answered 0 or less; as many bytes as the answer's text has are handed to the write. Which bytes the journal has, which stand
 -- in the output, and what the arguments are, no contract can say.
 use Rattle.std.specs.Prelude.{ℕ, ◌+◌, ◌-◌, ◌*◌, ◌/◌, min, ◌≤◌, ◌≡◌, List, Bool, true, false, not, cond, ◌&&◌, eqb, length, take}
-use Rattle.text.specs.declared.Number.{Number}
-use Rattle.text.specs.declared.Number.TheVariants.{Value}
+use Rattle.std.specs.Prelude.{Option, Some}
 use Rattle.text.specs.Decimal.{lines_of, number_refusal}
 use Rattle.sector.specs.Places.{blocks_in}
 use Rattle.events.specs.Why.{why}
@@ -76,6 +75,6 @@ pub data Answered (asked : ℕ) (opened : Opened) (handed : ℕ) : Type 0 where
   told : (file : File) → opened ≡ Opening.File file → Wrote asked handed → Answered asked opened handed
 
 -- for the number that an argument spells: the same where it is none, else the answer for this number, of what was opened
-pub data Served (number : Number) (handed : ℕ) : Type 0 where
+pub data Served (number : Option ℕ) (handed : ℕ) : Type 0 where
   refused : number_refusal number ≡ 4 → handed ≡ 2 → Served number handed
-  answered : (asked : ℕ) (opened : Opened) → number ≡ Value asked → Answered asked opened handed → Served number handed
+  answered : (asked : ℕ) (opened : Opened) → number ≡ Some asked → Answered asked opened handed → Served number handed

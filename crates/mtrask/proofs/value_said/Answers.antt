@@ -9,4 +9,4 @@ returns-in_default c = sym (ap spoken_as c.in_default.is)
 
 pub returns : goal.returns
 unfolding spoken_as
-returns c = sym (ap spoken_as c.in-Value.is)
+returns c = sym (ap spoken_as c.in-Some.is)

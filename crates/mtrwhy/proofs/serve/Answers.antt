@@ -4,4 +4,4 @@ use Rattle.mtrwhy.proofs.Pieces.{served}
 use Rattle.mtrwhy.proofs.serve.Goals as goal
 
 pub returns : goal.returns
-returns g c = served c.in-Value.asked c.in-Value.is c.answer_for.ensures (omega arith)
+returns g c = served c.in-Some.asked c.in-Some.is c.answer_for.ensures (omega arith)
