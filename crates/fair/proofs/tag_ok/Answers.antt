@@ -6,5 +6,6 @@ use Rattle.fair.proofs.tag_ok.Goals as goal
 pub returns : goal.returns
 returns c =
     let a = c.args in
-    tag_near a.limit a.time a.most a.weight a.ready false a.tag c.if-weight-lt-WEIGHT_LEAST.false c.if-weight-gt-WEIGHT_MOST.false
-    c.if-most-tag.false refl c.if-tag-time.false
+    rw (c.from.ensures, c.from-top.ensures)
+    (tag_near a.limit a.time a.most a.weight a.ready false a.tag c.if-weight-lt-WEIGHT_LEAST.false c.if-weight-gt-WEIGHT_MOST.false
+    c.if-most-tag.false refl c.if-tag-time.false)
