@@ -1,10 +1,9 @@
 -- RULE 2.15 as the code chooses: a number, or none. `thread_of` joins it to the numbers of the rule and of the state, where 64 is none.
-use Rattle.std.specs.Prelude.{ℕ, ◌+◌, Bool, true, ltb, Option, Some, None}
+use Rattle.std.specs.Prelude.{ℕ, ◌+◌, Bool, true, ltb, Option, Some, None, unwrap_or}
 
 -- the number of the thread, or 64
-unfoldable pub thread_of : Option ℕ → ℕ
-thread_of None = 64
-thread_of (Some n) = n
+abbrev pub thread_of : Option ℕ → ℕ
+thread_of number = unwrap_or number 64
 
 -- a tag is smaller than that of the best so far, or there is none
 unfoldable pub goes_first : ℕ → Option ℕ → Bool

@@ -26,7 +26,9 @@ overflow_cast-result-then-accepted c = omega (arith, (c.requires c.if-accepted.t
 
 pub returns-then-accepted : goal.returns-then-accepted
 unfolding new_thread
-returns-then-accepted c = rw (c.if-accepted.true, small w32 c.quantum_of.result (omega (arith, most c)), c.quantum_of.ensures)
+returns-then-accepted c =
+    let q = (goal.at.returns-then-accepted c).After-quantum_of in
+    rw (c.if-accepted.true, c.default.ensures, small w32 c.quantum_of.result (omega (arith, most q)), c.quantum_of.ensures)
 
 pub returns : goal.returns
 returns c = rw c.if-accepted.false

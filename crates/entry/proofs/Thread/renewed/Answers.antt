@@ -1,22 +1,29 @@
 -- `renewed` meets its contract: what is used up is no more than the ticks used.
-use mathlib.Core.Path.{◌≡◌, sym, ap, ◌∙◌}
+use mathlib.Core.Path.{◌≡◌, refl, sym, ap, ◌∙◌}
+use mathlib.Core.Bool.{false}
 use Prim.Native.Nat.{ℕ}
-use lib.Dec.{leb}
+use lib.Dec.{leb, eqb}
+use denote.Enum.Bare.{sameb}
 use borrow.Author.Rules.{rules}
-use borrow.Author.Tests.{ne_eqb}
 use Rattle.quota.specs.Quota.{nat_of}
+use Rattle.entry.specs.declared.threads.Reason.{Reason}
+use Rattle.entry.specs.declared.threads.Reason.TheVariants.{Tick, Block, Yield, Exit}
+use Rattle.entry.specs.contracts.threads.Reason.{the_type}
+use Rattle.entry.specs.Inner.{number_of_reason}
 use Rattle.entry.specs.Effects.{renewed}
 use Rattle.entry.proofs.Debt.{used_up_lem}
 use Rattle.entry.proofs.Thread.renewed.Goals as goal
 
-pub returns-then-reason-eq-YIELD : goal.returns-then-reason-eq-YIELD
-unfolding renewed
-returns-then-reason-eq-YIELD c = simp c.if-reason-eq-YIELD.true
+other : (r : Reason) → sameb the_type r Yield ≡ false → eqb (number_of_reason r) 2 ≡ false
+other Tick e = refl
+other Block e = refl
+other Yield e = e
+other Exit e = refl
 
-pub returns : goal.returns
+pub returns-else-eq : goal.returns-else-eq
 unfolding renewed
-returns c =
+returns-else-eq c =
     let a = c.args in
     let e : c.number_of.result ≡ nat_of a.self.allotment = search rules in
-    rw (ne_eqb a.reason 2 c.if-reason-eq-YIELD.false)
-    (ap (λ (n : ℕ). leb n a.used) e ∙ sym (used_up_lem a.used a.self))
+    rw (other a.report.reason (sym c.eq.ensures ∙ c.if-eq.false))
+    (ap (λ (n : ℕ). leb n a.report.used) (c.from.ensures ∙ e) ∙ sym (used_up_lem a.report.used a.self))

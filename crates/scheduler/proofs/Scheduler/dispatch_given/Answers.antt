@@ -1,23 +1,27 @@
 -- `dispatch_given` meets its contract. The first loop's invariant: what is passed of the whole list is the entries passed so far and what
 -- is passed of the rest; it ends at a runnable thread or at the list's end, where nothing is passed of the rest. The second loop's, where
 -- no thread of the list was found: what the search among the best-effort threads has found so far.
-use Prim.Native.Nat.{ℕ, ◌+◌, min, ◌≤◌, ◌<◌}
+use Prim.Native.Nat.{ℕ, ◌+◌, ◌%◌, min, ◌≤◌, ◌<◌}
 use mathlib.Core.Path.{◌≡◌, sym, ap, subst, ◌∙◌}
-use mathlib.Core.Bool.{cond}
+use mathlib.Core.Bool.{Bool, true, false, cond}
 use native.Mathlib.Omega.{arith}
 use lib.ListN.{length, get_or, take}
-use lib.Dec.{eqb}
-use borrow.Author.Tests.{eq-eqb, ne_eqb, eqb-false}
+use lib.Dec.{ltb, eqb}
+use borrow.Author.Tests.{eq-eqb, ne_eqb}
+use Rattle.std.specs.Prelude.{Option, Some}
+use Rattle.std.specs.Bool.{then_some}
+use Rattle.std.specs.Option.{option_or}
+use Rattle.std.proofs.lemmas.Option.{none-some, cond_some}
 use Rattle.base.specs.Lists.{passed}
-use Rattle.base.proofs.Bools.{cases}
 use Rattle.order.proofs.Queue.{stop, go, end}
-use Rattle.fair.specs.Tags.{first_or}
-use Rattle.fair.proofs.Dispatch.{counted_most}
+use Rattle.fair.specs.Choice.{thread_of}
+use Rattle.fair.proofs.Dispatch.{count_most}
 use Rattle.rule.specs.State.{State, thread_at, runnable_at, with_run}
 use Rattle.entry.specs.declared.effort.Efforts.{Efforts}
 use Rattle.entry.specs.Entry.{no_thread}
+use Rattle.entry.specs.Inner.{number_of}
 use Rattle.rule.specs.Refusals.{dispatch, refusal}
-use Rattle.entry.proofs.effort.Search.{Found, found_none, found-next, count_next, found_end, taken}
+use Rattle.entry.proofs.effort.Search.{Found, found-first, found-next, count_next, taken}
 use Rattle.scheduler.specs.View.{view}
 use Rattle.scheduler.proofs.threads.Dispatch.{dispatch_number, looking, look_small, look_most, dispatch_done}
 use Rattle.scheduler.proofs.Scheduler.dispatch_given.Invariants.{beyond}
@@ -48,6 +52,15 @@ module _ (c : After-searched-count) where
   inside : (i : ℕ) → i < count → i < min count (length S.order)
   inside i h = omega (arith, (looking S code number count part (omega arith)).known.order64, most)
 
+-- the first runnable thread of the list, or none
+thread_of_listed : (listed : Option ℕ) (b : Bool) (n : ℕ) → listed ≡ then_some b n → thread_of listed ≡ cond b n 64
+thread_of_listed listed true n e = ap thread_of e
+thread_of_listed listed false n e = ap thread_of e
+
+apart : (listed : Option ℕ) (b : Bool) (n : ℕ) → listed ≡ then_some b n → n < 64 → listed ≡ Some 64 → ⊥
+apart listed true n e h z = omega (arith, (cond_some true n 64 (sym e ∙ z)).1)
+apart listed false n e h z = none-some 64 (sym e ∙ z)
+
 pub bounds-self-before : goal.bounds-self-before
 bounds-self-before c = omega (arith, c.loop-before-test.true, most (goal.at.bounds-self-before c).After-searched-count)
 
@@ -69,23 +82,8 @@ loop-before-preserved c =
 
 pub loop-i-init : goal.loop-i-init
 loop-i-init c =
-    let q = c.search_from-i.ensures in
-    let e = c.none-efforts.ensures in
-    let threads = c.args.self.threads in
-    cases (eqb c.running_after-listed.result 64)
-    (λ z.
-    let start : c.search_from-i.result ≡ 0 = q ∙ rw z in (
-      omega (arith, start),
-      omega (arith, ap (λ (x : Efforts). x.count) e),
-      λ _. subst (λ (n : ℕ). Found threads n c.none-efforts.result) (sym start)
-          (subst (Found threads 0) (sym e) (found_none threads)),
-    ))
-    (λ z.
-    let start : c.search_from-i.result ≡ 64 = q ∙ rw z in (
-      omega (arith, start),
-      omega (arith, ap (λ (x : Efforts). x.count) e),
-      λ y. absurd (eqb-false c.running_after-listed.result 64 z y),
-    ))
+    found-first c.args.self.threads c.then_some-listed.result c.search_from-i.result c.default-efforts.result c.search_from-i.ensures
+    c.default-efforts.ensures
 
 pub loop-i-preserved : goal.loop-i-preserved
 loop-i-preserved c =
@@ -105,7 +103,7 @@ overflow_cast-counted c =
     omega (
       arith,
       c.choice-taken.ensures.1,
-      counted_most (first_or c.running_after-listed.result l.efforts.best) c.loop-before.before l.efforts.count,
+      count_most (option_or c.then_some-listed.result (number_of l.efforts.best)) c.loop-before.before l.efforts.count,
       c.loop-before.invariant.0,
       most (goal.at.overflow_cast-counted c).After-searched-count,
       l.invariant.0,
@@ -128,12 +126,14 @@ returns c =
           (eq-eqb (thread_at s (get_or s.order n 0)).status 1 (omega (arith, w.if-status-eq-RUNNABLE.true)))
     ] in
     let all : passed (runnable_at s) (take (count t) s.order) ≡ n = omega (arith, c.loop-before.invariant.1, rest) in
-    let w =
-    taken s.threads c.running_after-listed.result n l.efforts
-    (λ e. found_end s.threads l.i l.efforts (l.invariant.2 e) c.loop-i-test.false) in
+    let listed = c.then_some-listed.result in
+    let first : ℕ = get_or s.order (n % 64) 0 % 64 in
     let h = c.choice-taken in
+    let w =
+    taken s.threads listed n l.i l.efforts (apart listed (ltb n (count t)) first c.then_some-listed.ensures (omega arith)) l.invariant.2 c.loop-i-test.false in
     dispatch_done s (code t) (number t) (count t) (part t) n c.loop-before.invariant.0 all
-    c.running_after-listed.result c.running_after-listed.ensures h.result.number (h.ensures.0 ∙ w.0)
+    (thread_of listed) (thread_of_listed listed (ltb n (count t)) first c.then_some-listed.ensures)
+    c.unwrap_or-number.result (c.unwrap_or-number.ensures ∙ ap thread_of h.ensures.0 ∙ w.0)
     h.result.before (h.ensures.1 ∙ w.1) c.slice-slice.result c.slice-slice.ensures
     c.time_if.result c.time_if.ensures c.running_after.result c.running_after.ensures
     c.dispatched.result c.dispatched.ensures

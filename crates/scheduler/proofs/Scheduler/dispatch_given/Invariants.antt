@@ -1,6 +1,7 @@
 use Prim.Native.Nat.{ℕ, ◌+◌, ◌-◌, ◌≤◌}
 use mathlib.Core.Path.{◌≡◌}
 use lib.ListN.{take, drop}
+use Rattle.std.specs.Prelude.{None}
 use Rattle.base.specs.Lists.{passed}
 use Rattle.rule.specs.State.{State, runnable_at}
 use Rattle.entry.proofs.effort.Search.{Found}
@@ -20,7 +21,7 @@ abbrev pub decreases-loop-before : goal.decreases-loop-before
 decreases-loop-before l = l.count - l.before
 
 abbrev pub invariant-loop-i : goal.invariant-loop-i
-invariant-loop-i l = (l.i ≤ 64) × (l.efforts.count ≤ l.i) × (l.listed ≡ 64 → Found l.self.threads l.i l.efforts)
+invariant-loop-i l = (l.i ≤ 64) × (l.efforts.count ≤ l.i) × (l.listed ≡ None → Found l.self.threads l.i l.efforts)
 
 abbrev pub decreases-loop-i : goal.decreases-loop-i
 decreases-loop-i l = 64 - l.i

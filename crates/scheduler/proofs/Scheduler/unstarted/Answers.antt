@@ -4,4 +4,4 @@ use Rattle.scheduler.proofs.Scheduler.unstarted.Goals as goal
 
 pub returns : goal.returns
 unfolding unstarted
-returns c = rw c.none-thread.ensures
+returns c = rw c.default-thread.ensures
