@@ -1,15 +1,11 @@
 -- `report_given` meets its contract: the number is the refusal's, and where it is 0 the state is the reported one.
-use Prim.Native.Nat.{ℕ, ◌%◌}
+use Prim.Native.Nat.{◌%◌}
 use mathlib.Core.Path.{◌≡◌, sym, ap, subst, ◌∙◌}
 use mathlib.Core.Bool.{true, ◌&&◌}
 use lib.Dec.{T, eqb}
 use borrow.Author.Tests.{eqb-true}
-use Rattle.std.specs.Prelude.{Result}
-use Rattle.std.specs.Result.{result_unwrap_or}
 use Rattle.base.proofs.Bools.{and_l, and_r, is, holds}
 use Rattle.rule.specs.State.{State, thread_at}
-use Rattle.entry.specs.declared.threads.Reason.{Reason}
-use Rattle.entry.specs.declared.threads.Reason.TheVariants.{Tick}
 use Rattle.entry.specs.Entry.{has_reservation}
 use Rattle.entry.specs.Inner.{number_of_reason}
 use Rattle.entry.proofs.Reasons.{reason_small}
@@ -48,7 +44,7 @@ count_after-requires c = λ z.
     let l = c.leaves in
     let t = holds (b && l.result) z in
     let h = has_reservation (thread_at (S k) ((S k).running % 64)) in
-    let r = number_of_reason c.unwrap_or.result in
+    let r = number_of_reason c.reason_read.result in
     let left : T (h && eqb r 3) = subst T l.ensures (and_r b l.result t) in
     ((known k (is b (and_l b l.result t))).list (is h (and_l h (eqb r 3) left))).some
 
@@ -56,9 +52,9 @@ pub returns : goal.returns
 returns c =
     let k = (goal.at.returns c).After-report_code-code in
     report_done (S k) c.args.reason c.args.used c.report_code-code.result (number k) c.answered.result c.answered.ensures
-    (number_of_reason c.unwrap_or.result)
+    (number_of_reason c.reason_read.result)
     (λ z.
-    ap number_of_reason (c.unwrap_or.ensures ∙ ap (λ (r : Result Reason ℕ). result_unwrap_or r Tick) c.try_from.ensures)
+    ap number_of_reason c.reason_read.ensures
     ∙ reason_small c.args.reason (known k z).known)
     c.reported-reported.result c.meter_after-meter.result c.reported-reported.ensures
     c.moves.result c.moves.ensures c.requeued-moved.result c.requeued-moved.ensures
