@@ -8,8 +8,8 @@ use Rattle.text.proofs.Area.{written_over, next-over, written_none, next-none}
 use Rattle.text.proofs.Digits.{digits_some}
 use Rattle.text.proofs.put_number.Goals as goal
 
-pub returns-then-room-size : goal.returns-then-room-size
-returns-then-room-size c =
+pub returns-then-saturating_sub-size : goal.returns-then-saturating_sub-size
+returns-then-saturating_sub-size c =
     let s = c.args in record {
       value = sym (next-none s.area.now s.at (digits s.n) (omega arith));
       area_after = sym (written_none s.area.now s.at (digits s.n) (omega arith));

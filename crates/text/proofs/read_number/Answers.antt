@@ -1,57 +1,36 @@
--- `text::read_number` meets its contract: before each turn the first i bytes are digits and spell n. Assumes nothing.
+-- `text::read_number` meets its contract: before each turn the bytes read are digits and spell n. Assumes nothing.
+use mathlib.Core.Path.{◌≡◌, sym, ◌∙◌}
+use lib.ListN.{length}
+use Rattle.std.proofs.Common.{rules}
 use native.Mathlib.Omega.{arith}
-use Rattle.text.proofs.Reading.{empty_bad, long_bad, start, low_bad, high_bad, room, more, whole}
+use Rattle.text.proofs.Reading.{no_length, no_digit, room, more, whole}
 use Rattle.text.proofs.read_number.Goals as goal
+use Rattle.text.proofs.read_number.Goals.{then-is_empty-via-then-is_empty, then-is_empty-via-else-is_empty+then-text-gt19}
 
-pub returns-then-text-eq0 : goal.returns-then-text-eq0
-returns-then-text-eq0 c = empty_bad c.args.text.now (omega arith)
+pub returns-then-is_empty : goal.returns-then-is_empty
+returns-then-is_empty c =
+    elim c.then-is_empty.branch [
+      | then-is_empty-via-then-is_empty w ↦
+          let e : length c.args.text.now ≡ 0 = search rules in
+          no_length c.args.text.now (λ h. absurd (omega arith))
+      | then-is_empty-via-else-is_empty+then-text-gt19 w ↦ no_length c.args.text.now (λ h. omega arith)
+    ]
 
-pub returns-then-text-gt19 : goal.returns-then-text-gt19
-returns-then-text-gt19 c =
-    let s = c.args in
-    long_bad s.text.now (omega arith)
-
-pub loop-i-init : goal.loop-i-init
-loop-i-init c =
-    let s = c.args in
-    start s.text.now (omega arith) (omega arith)
-
-pub returns-then-b-lt48 : goal.returns-then-b-lt48
-returns-then-b-lt48 c =
-    let l = c in
-    let s = l.args in
-    low_bad s.text.now l.loop-i.n l.loop-i.i l.loop-i.invariant (omega arith) (omega arith)
-
-pub returns-then-b-gt57 : goal.returns-then-b-gt57
-returns-then-b-gt57 c =
-    let l = c in
-    let s = l.args in
-    high_bad s.text.now l.loop-i.n l.loop-i.i l.loop-i.invariant (omega arith) (omega arith) (omega arith)
+pub returns-then-not-is_ascii_digit : goal.returns-then-not-is_ascii_digit
+returns-then-not-is_ascii_digit c =
+    no_digit c.args.text.now c.loop-b.n c.loop-b.b-index c.loop-b.invariant (omega arith) (sym c.is_ascii_digit.ensures.value ∙ c.if-not-is_ascii_digit.true)
 
 pub overflow_mul-n : goal.overflow_mul-n
-overflow_mul-n c =
-    let l = c in
-    let s = l.args in
-    omega (arith, room s.text.now l.loop-i.n l.loop-i.i l.loop-i.invariant (omega arith))
+overflow_mul-n c = omega (arith, room c.args.text.now c.loop-b.n c.loop-b.b-index c.loop-b.invariant (omega arith))
 
 pub overflow_add-n : goal.overflow_add-n
 overflow_add-n c =
-    let l = c in
-    let s = l.args in
-    omega (arith, room s.text.now l.loop-i.n l.loop-i.i l.loop-i.invariant (omega arith))
+    omega (arith, room c.args.text.now c.loop-b.n c.loop-b.b-index c.loop-b.invariant (omega arith), c.if-not-is_ascii_digit.ensures.cases.1)
 
-pub loop-i-smaller : goal.loop-i-smaller
-loop-i-smaller c = omega arith
-
-pub loop-i-preserved : goal.loop-i-preserved
-loop-i-preserved c =
-    let l = c in
-    let s = l.args in
-    rw c.wide-b.ensures (more s.text.now l.loop-i.n l.loop-i.i l.loop-i.invariant (omega arith) (omega arith)
-    (omega arith))
+pub loop-b-preserved : goal.loop-b-preserved
+loop-b-preserved c =
+    rw c.from.ensures (more c.args.text.now c.loop-b.n c.loop-b.b-index c.loop-b.invariant (omega arith)
+    c.if-not-is_ascii_digit.ensures.cases.0 c.if-not-is_ascii_digit.ensures.cases.1)
 
 pub returns : goal.returns
-returns c =
-    let l = c in
-    let s = l.args in
-    whole s.text.now l.loop-i.n l.loop-i.i l.loop-i.invariant (omega arith)
+returns c = whole c.args.text.now c.loop-b.n c.loop-b.b-index c.loop-b.invariant (omega arith)
