@@ -200,9 +200,9 @@ fn written<'a>(source: &'a str) -> Vec<Line<'a>> {
         .map(str::trim)
         .collect();
     let (refused, lines) = cases.split_last().unwrap();
-    assert_eq!(*refused, "_ => Mapping::Refused(OUTSIDE),");
+    assert_eq!(*refused, "_ => Err(Refusal::Outside),");
     let line = |case: &&'a str| {
-        let (priority, rest) = case.split_once(" => Mapping::Reservation(").unwrap();
+        let (priority, rest) = case.split_once(" => Ok(").unwrap();
         let (reservation, comment) = rest.split_once("),").unwrap();
         let name = comment.strip_prefix(" // ").unwrap_or(comment);
         (
