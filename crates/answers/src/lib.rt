@@ -69,12 +69,11 @@ impl From<Refusal> for u32 {
     }
 }
 
-// A call is accepted, or refused with a number. An accepted dispatch is idle, with the number of threads, or says who runs, for how long,
-// and how many threads stood before it.
-#[derive(Clone, Copy)]
-pub enum Answer {
-    Accepted,
-    Refused(u32),
+// What an accepted call answers beside the state. A dispatch is idle, with the number of threads, or says who runs, for how long, and how
+// many threads stood before it.
+#[derive(Clone, Copy, Debug, PartialEq, Eq)]
+pub enum Outcome {
+    Done,
     Idle(u32),
     Run {
         thread: u32,
@@ -82,3 +81,6 @@ pub enum Answer {
         before: u32,
     },
 }
+
+// What a call answers.
+pub type Answer = Result<Outcome, Refusal>;

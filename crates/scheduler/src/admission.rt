@@ -6,6 +6,7 @@ ghost use Rattle.scheduler.specs.Answers.{answered_to};
 ghost use Rattle.scheduler.specs.View.{view};
 
 use crate::{Answered, Scheduler, threads};
+use answers::Outcome;
 
 // The entry past the list's end after a call to admit a thread, whose number goes there.
 fn place_if(accepted: bool, old: u8, number: u8) -> u8
@@ -33,7 +34,7 @@ impl Scheduler {
         let used = tree::load_of(groups, reserved, group);
         let at = (number % 64) as usize;
         let old = self.threads[at];
-        let code = tree::admit_code(
+        let check = tree::admit_check(
             test.ok,
             old.status,
             groups,
@@ -42,7 +43,7 @@ impl Scheduler {
             group,
             reservation,
         );
-        let accepted = code == 0;
+        let accepted = check.is_ok();
         let count = self.count;
         let rear = (count % 64) as usize;
         let last = self.order[rear];
@@ -57,7 +58,7 @@ impl Scheduler {
         self.order[rear] = place_if(accepted, last, at as u8);
         self.count = count_if(accepted, count);
         Answered {
-            answer: threads::answered(code),
+            answer: threads::answered(check, Outcome::Done),
             state: self,
         }
     }
@@ -76,11 +77,11 @@ impl Scheduler {
     {
         let at = (number % entry::THREADS as u64) as usize;
         let old = self.threads[at];
-        let code = refusals::effort_code(ok, number, old.status, weight);
-        let thread = old.effort_if(code == 0, self.meter, self.time, weight);
+        let check = refusals::effort_check(ok, number, old.status, weight);
+        let thread = old.effort_if(check.is_ok(), self.meter, self.time, weight);
         self.threads[at] = thread;
         Answered {
-            answer: threads::answered(code),
+            answer: threads::answered(check, Outcome::Done),
             state: self,
         }
     }

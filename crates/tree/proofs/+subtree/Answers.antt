@@ -1,15 +1,16 @@
 -- `subtree` meets its contract and ends.
-use Prim.Native.Nat.{ℕ}
+use Prim.Native.Nat.{ℕ, ◌+◌}
 use native.Mathlib.Omega.{arith}
 use lib.ListN.{get_or}
-use mathlib.Core.Path.{◌≡◌, sym, ap, ◌∙◌}
+use mathlib.Core.Path.{◌≡◌, sym, ap, subst, ◌∙◌}
 use mathlib.Core.Bool.{Bool}
 use Rattle.entry.specs.declared.Group.{Group}
 use Rattle.rule.proofs.Facts.{open_small}
 use Rattle.entry.specs.Entry.{no_group}
 use Rattle.tree.proofs.Sums.{under_of}
-use Rattle.tree.proofs.Tree.{below_none, below_add, below_skip, below-child, below_most, below_end}
+use Rattle.tree.proofs.Tree.{Below, below_none, below_add, below_skip, below-child, below_most, below_end}
 use Rattle.tree.proofs.+subtree.Goals as goal
+use Rattle.tree.proofs.+subtree.Goals.{then-under, else-under}
 
 -- what `under` tells, of the group that is asked for
 told : {b : Bool} (x : Group) (g p : ℕ) → under_of x p ≡ b → p ≡ g → under_of x g ≡ b
@@ -21,8 +22,8 @@ offset_bounds-reserved-at t c = record { fits = omega (arith, open_small c.requi
 pub bounds-reserved-at : goal.bounds-reserved-at
 bounds-reserved-at t c = open_small c.requires.state c.args.group c.requires.opened
 
-pub overflow_add-child : goal.overflow_add-child
-overflow_add-child t c = record { fits = omega (arith, open_small c.requires.state c.args.group c.requires.opened) }
+pub overflow_step-child : goal.overflow_step-child
+overflow_step-child t c = record { fits = omega (arith, open_small c.requires.state c.args.group c.requires.opened) }
 
 pub loop-child-init : goal.loop-child-init
 loop-child-init t c =
@@ -50,20 +51,22 @@ overflow_add-total t c =
       );
     }
 
-pub loop-child-preserved-then-under : goal.loop-child-preserved-then-under
-loop-child-preserved-then-under t c =
-    let l = c.loop-child in
-    let x = get_or c.args.groups l.child no_group in
-    let u = told x c.args.group _ (sym c.under.ensures ∙ c.if-under.true) (omega arith) in
-    below_add c.args.groups c.args.reserved c.args.group l.child l.total l.invariant c.loop-child-test.true
-    c.subtree-total.result u c.subtree-total.ensures
-
 pub loop-child-preserved : goal.loop-child-preserved
 loop-child-preserved t c =
     let l = c.loop-child in
     let x = get_or c.args.groups l.child no_group in
-    let u = told x c.args.group _ (sym c.under.ensures ∙ c.if-under.false) (omega arith) in
-    below_skip c.args.groups c.args.reserved c.args.group l.child l.total l.invariant c.loop-child-test.true u
+    let next : ℕ → Type 0 = Below c.args.groups c.args.reserved c.args.group (l.child + 1) in
+    elim c.if-under.branch [
+      then-under w ↦
+        let u = told x c.args.group _ (sym c.under.ensures ∙ w.if-under.true) (omega arith) in
+        subst next (sym w.total-is)
+        (below_add c.args.groups c.args.reserved c.args.group l.child l.total l.invariant c.loop-child-test.true
+        w.subtree-total.result u w.subtree-total.ensures)
+    | else-under w ↦
+        let u = told x c.args.group _ (sym c.under.ensures ∙ w.if-under.false) (omega arith) in
+        subst next (sym w.total-is)
+        (below_skip c.args.groups c.args.reserved c.args.group l.child l.total l.invariant c.loop-child-test.true u)
+    ]
 
 pub returns : goal.returns
 returns t c =

@@ -9,6 +9,3 @@ decreases-subtree l = 16 - l.group
 
 abbrev pub invariant-loop-child : goal.invariant-loop-child
 invariant-loop-child l = Below l.groups l.reserved l.group l.child l.total
-
-abbrev pub decreases-loop-child : goal.decreases-loop-child
-decreases-loop-child l = 16 - l.child

@@ -6,18 +6,6 @@ use Rattle.tree.proofs.ceilings_in.Goals as goal
 pub loop-i-init : goal.loop-i-init
 loop-i-init c = summed_none c.args.groups c.args.group
 
-pub offset_bounds-groups-i : goal.offset_bounds-groups-i
-offset_bounds-groups-i c = omega arith
-
-pub overflow_add-total : goal.overflow_add-total
-overflow_add-total c = omega arith
-
-pub overflow_add-i : goal.overflow_add-i
-overflow_add-i c = omega arith
-
-pub loop-i-smaller : goal.loop-i-smaller
-loop-i-smaller c = omega arith
-
 pub loop-i-preserved : goal.loop-i-preserved
 loop-i-preserved c =
     let a = c in

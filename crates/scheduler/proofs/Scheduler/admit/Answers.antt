@@ -1,5 +1,9 @@
 -- `Scheduler::admit` meets its contract: the code decides, and what is stored are the new values or the old ones.
-use mathlib.Core.Path.{◌≡◌, refl, ap}
+use mathlib.Core.Path.{◌≡◌, refl, sym, ap, ◌∙◌}
+use mathlib.Core.Bool.{Bool, cond}
+use lib.Dec.{eqb}
+use Rattle.answers.proofs.Refusals.{tested}
+use Rattle.answers.specs.Numbers.{number_in}
 use Prim.Native.Nat.{ℕ}
 use Rattle.rule.specs.State.{State, thread_at}
 use Rattle.rule.specs.Refusals.{admit, refusal}
@@ -7,9 +11,9 @@ use Rattle.scheduler.specs.View.{view}
 use Rattle.scheduler.proofs.threads.Replies.{rest}
 use Rattle.scheduler.proofs.groups.Stored.{admit_fits, admit_room, admit_done}
 use Rattle.scheduler.proofs.Scheduler.admit.Goals as goal
-use Rattle.scheduler.proofs.Scheduler.admit.Goals.{After-admit_code-code}
+use Rattle.scheduler.proofs.Scheduler.admit.Goals.{After-is_ok-accepted}
 
-module _ (c : After-admit_code-code) where
+module _ (c : After-is_ok-accepted) where
   abbrev S : State
   S = view c.args.self
 
@@ -22,26 +26,32 @@ module _ (c : After-admit_code-code) where
   abbrev F : ℕ
   F = c.args.reservation
 
-  number : c.admit_code-code.result ≡ refusal (admit N G F) S
+  abbrev K : ℕ
+  K = number_in c.admit_check-check.result
+
+  ok : c.is_ok-accepted.result ≡ eqb K 0
+  ok = tested c.admit_check-check.result c.is_ok-accepted.result c.is_ok-accepted.ensures.value
+
+  number : K ≡ refusal (admit N G F) S
   number =
       let test = c.tested-test.ensures in
-      c.admit_code-code.ensures S test.test refl (λ w. c.load_of-used.ensures S refl (test.sums w))
+      c.admit_check-check.ensures S test.test refl (λ w. c.load_of-used.ensures S refl (test.sums w))
       (λ h. ap (λ (n : ℕ). (thread_at S n).status) (rest N h))
 
 pub admitted_if-thread-requires : goal.admitted_if-thread-requires
-admitted_if-thread-requires c =
-    let k = (goal.at.admitted_if-thread-requires c).After-admit_code-code in
-    admit_fits (S k) (N k) (G k) (F k) c.admit_code-code.result (number k)
+admitted_if-thread-requires c = λ z.
+    let k = (goal.at.admitted_if-thread-requires c).After-is_ok-accepted in
+    admit_fits (S k) (N k) (G k) (F k) (K k) (number k) (sym (ok k) ∙ z)
 
 pub count_if-requires : goal.count_if-requires
-count_if-requires c =
-    let k = (goal.at.count_if-requires c).After-admit_code-code in
-    admit_room (S k) (N k) (G k) (F k) c.admit_code-code.result (number k)
+count_if-requires c = λ z.
+    let k = (goal.at.count_if-requires c).After-is_ok-accepted in
+    admit_room (S k) (N k) (G k) (F k) (K k) (number k) (sym (ok k) ∙ z)
 
 pub returns : goal.returns
 returns c =
-    let k = (goal.at.returns c).After-admit_code-code in
-    admit_done (S k) (N k) (G k) (F k) c.admit_code-code.result (number k) c.answered.result c.answered.ensures
-    c.admitted_if-thread.result c.admitted_if-thread.ensures
-    c.place_if.result c.place_if.ensures
-    c.count_if.result c.count_if.ensures
+    let k = (goal.at.returns c).After-is_ok-accepted in
+    admit_done (S k) (N k) (G k) (F k) (K k) (number k) c.answered.result c.answered.ensures
+    c.admitted_if-thread.result (c.admitted_if-thread.ensures ∙ rw (ok k))
+    c.place_if.result (c.place_if.ensures ∙ rw (ok k))
+    c.count_if.result (c.count_if.ensures ∙ rw (ok k))

@@ -2,7 +2,9 @@
 use Prim.Native.Nat.{ℕ, ◌+◌, ◌%◌}
 use mathlib.Core.Path.{◌≡◌, refl, ap, ◌∙◌}
 use mathlib.Core.List.{[], ◌∷◌}
-use mathlib.Core.Bool.{Bool, not, ◌||◌}
+use mathlib.Core.Bool.{Bool, not, cond, ◌||◌}
+use Rattle.answers.proofs.Refusals.{tested}
+use Rattle.answers.specs.Numbers.{number_in}
 use native.Mathlib.Omega.{arith}
 use lib.Dec.{ltb, eqb}
 use Rattle.base.specs.Checks.{within, ◌⇒◌, first_of}
@@ -12,9 +14,9 @@ use Rattle.rule.specs.Refusals.{change, refusal}
 use Rattle.scheduler.specs.View.{view}
 use Rattle.scheduler.proofs.change.Laws.{change_number, change_done}
 use Rattle.scheduler.proofs.Scheduler.change.Goals as goal
-use Rattle.scheduler.proofs.Scheduler.change.Goals.{After-change_code-code}
+use Rattle.scheduler.proofs.Scheduler.change.Goals.{After-change_check-check}
 
-module _ (c : After-change_code-code) where
+module _ (c : After-change_check-check) where
   abbrev S : State
   S = view c.args.self
 
@@ -34,21 +36,25 @@ module _ (c : After-change_code-code) where
       first_of ((not c.tested-test.result.ok ⇒ 16) ∷ (ltb 63 N || not reserved ⇒ 7) ∷ (eqb S.running N ⇒ 9)
       ∷ (not (within 1 1000 F) ⇒ 4) ∷ (ltb space F ⇒ 5) ∷ [])
 
-  roomed : (space : ℕ) → c.change_code-code.result ≡ checked space c.is_reserved.result → space ≡ room
-      → c.change_code-code.result ≡ checked room (is_reserved (thread_at S (N % 64)))
+  abbrev K : ℕ
+  K = number_in c.change_check-check.result
+
+  roomed : (space : ℕ) → K ≡ checked space c.is_reserved.result → space ≡ room
+      → K ≡ checked room (is_reserved (thread_at S (N % 64)))
   roomed space q e = q ∙ ap (λ (j : ℕ). checked j c.is_reserved.result) e ∙ ap (checked room) c.is_reserved.ensures
 
-  number : c.change_code-code.result ≡ refusal (change N F) S
+  number : K ≡ refusal (change N F) S
   number =
       let test = c.tested-test.ensures in
       let own = (thread_at S (N % 64)).reservation in
       change_number S N F c.tested-test.result.ok test.test room
       (λ w. ap (λ (j : ℕ). j + own) (c.free_in-free.ensures.1 S refl (λ h. c.load_of-used.ensures S refl (test.sums w) h)))
-      c.change_code-code.result (roomed _ c.change_code-code.ensures (omega arith))
+      K (roomed _ c.change_check-check.ensures (omega arith))
 
 pub returns : goal.returns
 unfolding with_thread
 returns c =
-    let k = (goal.at.returns c).After-change_code-code in
-    change_done (S k) (N k) (F k) c.change_code-code.result (number k) c.answered.result c.answered.ensures
-    c.changed_if-thread.result c.changed_if-thread.ensures
+    let k = (goal.at.returns c).After-change_check-check in
+    change_done (S k) (N k) (F k) (K k) (number k) c.answered.result c.answered.ensures
+    c.changed_if-thread.result (c.changed_if-thread.ensures
+    ∙ rw (tested c.change_check-check.result c.is_ok.result c.is_ok.ensures.value))

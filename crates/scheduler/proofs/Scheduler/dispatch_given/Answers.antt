@@ -3,7 +3,9 @@
 -- no thread of the list was found: what the search among the best-effort threads has found so far.
 use Prim.Native.Nat.{ℕ, ◌+◌, ◌%◌, min, ◌≤◌, ◌<◌}
 use mathlib.Core.Path.{◌≡◌, sym, ap, subst, ◌∙◌}
-use mathlib.Core.Bool.{Bool, true, false, cond}
+use mathlib.Core.Bool.{Bool, true, false, cond, ◌&&◌}
+use Rattle.answers.proofs.Refusals.{tested}
+use Rattle.answers.specs.Numbers.{refused_or, number_in}
 use native.Mathlib.Omega.{arith}
 use lib.ListN.{length, get_or, take}
 use lib.Dec.{ltb, eqb}
@@ -35,16 +37,19 @@ module _ (c : After-searched-count) where
   S = view c.args.self
 
   abbrev code : ℕ
-  code = c.dispatch_code-code.result
+  code = number_in c.dispatch_check-check.result
+
+  ok : c.is_ok-accepted.result ≡ eqb code 0
+  ok = tested c.dispatch_check-check.result c.is_ok-accepted.result c.is_ok-accepted.ensures.value
 
   abbrev count : ℕ
   count = c.searched-count.result
 
   number : code ≡ refusal dispatch S
-  number = c.dispatch_code-code.ensures ∙ dispatch_number S c.args.ok c.requires
+  number = c.dispatch_check-check.ensures ∙ dispatch_number S c.args.ok c.requires
 
   part : count ≡ cond (eqb code 0) S.count 0
-  part = c.searched-count.ensures
+  part = c.searched-count.ensures ∙ rw ok
 
   most : count ≤ 64
   most = look_most S code number count part
@@ -135,5 +140,5 @@ returns c =
     (thread_of listed) (thread_of_listed listed (ltb n (count t)) first c.then_some-listed.ensures)
     c.unwrap_or-number.result (c.unwrap_or-number.ensures ∙ ap thread_of h.ensures.0 ∙ w.0)
     h.result.before (h.ensures.1 ∙ w.1) c.slice-slice.result c.slice-slice.ensures
-    c.time_if.result c.time_if.ensures c.running_after.result c.running_after.ensures
-    c.dispatched.result c.dispatched.ensures
+    c.time_if.result (c.time_if.ensures ∙ rw (ok t)) c.running_after.result (c.running_after.ensures ∙ rw (ok t))
+    c.answered.result (c.answered.ensures ∙ ap (refused_or (code t)) c.outcome.ensures)

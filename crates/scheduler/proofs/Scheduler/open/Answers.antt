@@ -1,5 +1,8 @@
 -- `Scheduler::open` meets its contract: the code decides, and what is stored is the new group or the old one.
-use mathlib.Core.Path.{refl}
+use mathlib.Core.Path.{refl, ap, ◌∙◌}
+use mathlib.Core.Bool.{Bool, cond}
+use Rattle.answers.proofs.Refusals.{tested}
+use Rattle.answers.specs.Numbers.{number_in}
 use Rattle.rule.specs.State.{with_group}
 use Rattle.scheduler.specs.View.{view}
 use Rattle.scheduler.proofs.groups.Stored.{open_done}
@@ -11,6 +14,8 @@ returns c =
     let a = c.args in
     let s = view a.self in
     let test = c.tested-test.ensures in
-    let number = c.open_code-code.ensures s test.test refl (λ w. c.load_of-used.ensures s refl (test.sums w)) in
-    open_done s a.number a.parent a.ceiling c.open_code-code.result number c.answered.result c.answered.ensures
-    c.opened_if-group.result c.opened_if-group.ensures
+    let r = c.open_check-check.result in
+    let z = tested r c.is_ok.result c.is_ok.ensures.value in
+    let number = c.open_check-check.ensures s test.test refl (λ w. c.load_of-used.ensures s refl (test.sums w)) in
+    open_done s a.number a.parent a.ceiling (number_in r) number c.answered.result c.answered.ensures
+    c.opened_if-group.result (c.opened_if-group.ensures ∙ rw z)
