@@ -57,15 +57,15 @@ loop-child-preserved t c =
     let x = get_or c.args.groups l.child no_group in
     let next : ℕ → Type 0 = Below c.args.groups c.args.reserved c.args.group (l.child + 1) in
     elim c.if-under.branch [
-      then-under w ↦
-        let u = told x c.args.group _ (sym c.under.ensures ∙ w.if-under.true) (omega arith) in
-        subst next (sym w.total-is)
-        (below_add c.args.groups c.args.reserved c.args.group l.child l.total l.invariant c.loop-child-test.true
-        w.subtree-total.result u w.subtree-total.ensures)
-    | else-under w ↦
-        let u = told x c.args.group _ (sym c.under.ensures ∙ w.if-under.false) (omega arith) in
-        subst next (sym w.total-is)
-        (below_skip c.args.groups c.args.reserved c.args.group l.child l.total l.invariant c.loop-child-test.true u)
+      | then-under w ↦
+          let u = told x c.args.group _ (sym c.under.ensures ∙ w.if-under.true) (omega arith) in
+          subst next (sym w.total-is)
+          (below_add c.args.groups c.args.reserved c.args.group l.child l.total l.invariant c.loop-child-test.true
+          w.subtree-total.result u w.subtree-total.ensures)
+      | else-under w ↦
+          let u = told x c.args.group _ (sym c.under.ensures ∙ w.if-under.false) (omega arith) in
+          subst next (sym w.total-is)
+          (below_skip c.args.groups c.args.reserved c.args.group l.child l.total l.invariant c.loop-child-test.true u)
     ]
 
 pub returns : goal.returns

@@ -20,11 +20,11 @@ returns-then-not-ok c = λ s w g l. close_unsound s c.args.number (sym w ∙ c.i
 pub returns-then-number-eq0 : goal.returns-then-number-eq0
 returns-then-number-eq0 c = λ s w g l.
     elim c.then-number-eq0.branch [
-      then-number-eq0-via-then-number-eq0 v ↦
-        close_root s c.args.number (sym w ∙ c.if-not-ok.false) (omega (arith, v.if-number-eq0.true))
-    | then-number-eq0-via-else-number-eq0+then-not-is_open v ↦
-        close_closed s c.args.number (sym w ∙ c.if-not-ok.false) v.if-number-eq0.false
-        (sym (v.is_open.ensures s g) ∙ v.if-not-is_open.true)
+      | then-number-eq0-via-then-number-eq0 v ↦
+          close_root s c.args.number (sym w ∙ c.if-not-ok.false) (omega (arith, v.if-number-eq0.true))
+      | then-number-eq0-via-else-number-eq0+then-not-is_open v ↦
+          close_closed s c.args.number (sym w ∙ c.if-not-ok.false) v.if-number-eq0.false
+          (sym (v.is_open.ensures s g) ∙ v.if-not-is_open.true)
     ]
 
 pub returns-then-used-ne0 : goal.returns-then-used-ne0

@@ -1,6 +1,5 @@
 -- `Scheduler::open` meets its contract: the code decides, and what is stored is the new group or the old one.
-use mathlib.Core.Path.{refl, ap, ◌∙◌}
-use mathlib.Core.Bool.{Bool, cond}
+use mathlib.Core.Path.{refl, ◌∙◌}
 use Rattle.answers.proofs.Refusals.{tested}
 use Rattle.answers.specs.Numbers.{number_in}
 use Rattle.rule.specs.State.{with_group}

@@ -1,6 +1,6 @@
 -- `remove_given` meets its contract: the number is the refusal's, and where it is 0 the thread is off the list and its entry is free.
-use mathlib.Core.Path.{sym, ap, ◌∙◌}
-use mathlib.Core.Bool.{Bool, cond, ◌&&◌}
+use mathlib.Core.Path.{sym, ◌∙◌}
+use mathlib.Core.Bool.{◌&&◌}
 use Rattle.answers.proofs.Refusals.{tested}
 use Rattle.answers.specs.Numbers.{number_in}
 use borrow.Author.Tests.{eqb-true}

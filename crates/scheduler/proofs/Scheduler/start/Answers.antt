@@ -56,13 +56,13 @@ returns c =
     let told = tested r c.is_ok.result c.is_ok.ensures.value in
     let held : Scheduler → Answered = λ s. record { answer = c.answered.result; state = s } in
     elim c.if-is_ok.branch [
-      then-is_ok w ↦
-        ap held w.state-is
-        ∙ start-done a.thousandth a.interval a.overrun zeros e
-        (sym c.start_check-check.ensures ∙ eqb-true (number_in r) 0 (sym told ∙ w.if-is_ok.true))
-        (number_in r) c.start_check-check.ensures c.answered.result c.answered.ensures
-    | else-is_ok w ↦
-        ap held w.state-is
-        ∙ start-refused a.thousandth a.interval a.overrun zeros e (number_in r) c.start_check-check.ensures
-        (eqb-false (number_in r) 0 (sym told ∙ w.if-is_ok.false)) c.answered.result c.answered.ensures
+      | then-is_ok w ↦
+          ap held w.state-is
+          ∙ start-done a.thousandth a.interval a.overrun zeros e
+          (sym c.start_check-check.ensures ∙ eqb-true (number_in r) 0 (sym told ∙ w.if-is_ok.true))
+          (number_in r) c.start_check-check.ensures c.answered.result c.answered.ensures
+      | else-is_ok w ↦
+          ap held w.state-is
+          ∙ start-refused a.thousandth a.interval a.overrun zeros e (number_in r) c.start_check-check.ensures
+          (eqb-false (number_in r) 0 (sym told ∙ w.if-is_ok.false)) c.answered.result c.answered.ensures
     ]

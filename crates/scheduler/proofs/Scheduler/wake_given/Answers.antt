@@ -4,8 +4,7 @@ use Rattle.scheduler.specs.View.{view}
 use Rattle.scheduler.proofs.threads.Replies.{wake_number, wake_done}
 use Rattle.answers.proofs.Refusals.{tested}
 use Rattle.answers.specs.Numbers.{number_in}
-use mathlib.Core.Path.{ap, ◌∙◌}
-use mathlib.Core.Bool.{Bool, cond}
+use mathlib.Core.Path.{◌∙◌}
 use Rattle.scheduler.proofs.Scheduler.wake_given.Goals as goal
 
 pub returns : goal.returns
