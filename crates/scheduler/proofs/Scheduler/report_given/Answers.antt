@@ -1,6 +1,6 @@
 -- `report_given` meets its contract: the number is the refusal's, and where it is 0 the state is the reported one.
 use Prim.Native.Nat.{ℕ, ◌%◌}
-use mathlib.Core.Path.{◌≡◌, sym, subst, ◌∙◌}
+use mathlib.Core.Path.{◌≡◌, sym, ap, subst, ◌∙◌}
 use mathlib.Core.Bool.{true, ◌&&◌}
 use Rattle.answers.proofs.Refusals.{tested}
 use Rattle.answers.specs.Numbers.{number_in}
