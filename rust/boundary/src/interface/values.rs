@@ -3,19 +3,10 @@
 use super::resolve::Work;
 use super::{Constant, Form};
 use crate::names::{self, Names, Value, VERSION};
-use crate::{parse, Error};
+use crate::Error;
 
 /// Where the names stand.
 const OWN: &str = "rust/boundary/src/names.rs";
-
-/// A constant of a source by its name outside.
-fn shown(start: &str, name: &str, constant: &parse::Constant) -> Constant {
-    Constant {
-        name: format!("{start}{name}"),
-        value: constant.value,
-        doc: constant.doc.join(" "),
-    }
-}
 
 /// A variant's name as that of a constant: NoGroup is NO_GROUP.
 fn capitals(name: &str) -> String {
@@ -29,19 +20,6 @@ fn capitals(name: &str) -> String {
     out
 }
 
-/// There are some, and each has a comment.
-fn described(all: Vec<Constant>, file: &str, of: &str) -> Result<Vec<Constant>, Error> {
-    if let Some(constant) = all.iter().find(|c| c.doc.is_empty()) {
-        let text = format!("{} of {file} has no comment", constant.name);
-        return Err(Error::at(OWN, 1, text));
-    }
-    if all.is_empty() {
-        let text = format!("{file} has no public constant of type {of}");
-        return Err(Error::at(OWN, 1, text));
-    }
-    Ok(all)
-}
-
 impl Work<'_> {
     /// The constants of a family, in its order.
     pub(super) fn names(&mut self, family: &names::Family) -> Result<Vec<Constant>, Error> {
@@ -53,12 +31,6 @@ impl Work<'_> {
                     value: self.value(name, value)?,
                     doc: doc.to_string(),
                 }),
-                Names::All { file, start, of } => {
-                    let source = self.load(file, OWN, 1)?;
-                    let all = source.constants.iter().filter(|c| c.public && c.of == of);
-                    let all = all.map(|c| shown(start, &c.name, c)).collect();
-                    found.extend(described(all, file, of)?);
-                }
                 Names::Variants {
                     file,
                     start,
@@ -66,13 +38,26 @@ impl Work<'_> {
                     but,
                 } => {
                     let source = self.load(file, OWN, 1)?;
-                    let all = source.constants.iter().filter(|c| c.public && c.of == of);
-                    let all = all.filter_map(|c| {
-                        let name = c.name.rsplit("::").next()?;
-                        (!but.contains(&name)).then(|| shown(start, &capitals(name), c))
-                    });
-                    let all = all.collect();
-                    found.extend(described(all, file, of)?);
+                    let before = found.len();
+                    for c in source.constants.iter().filter(|c| c.public && c.of == of) {
+                        let name = c.name.rsplit("::").next().unwrap_or_default();
+                        if but.contains(&name) {
+                            continue;
+                        }
+                        if c.doc.is_empty() {
+                            let text = format!("{} of {file} has no comment", c.name);
+                            return Err(Error::at(OWN, 1, text));
+                        }
+                        found.push(Constant {
+                            name: format!("{start}{}", capitals(name)),
+                            value: c.value,
+                            doc: c.doc.join(" "),
+                        });
+                    }
+                    if found.len() == before {
+                        let text = format!("{file} has no public {of} with numbers");
+                        return Err(Error::at(OWN, 1, text));
+                    }
                 }
             }
         }
