@@ -4,6 +4,7 @@
 -- in the output, and what the arguments are, no contract can say.
 use Rattle.std.specs.Prelude.{ℕ, ◌+◌, ◌-◌, ◌*◌, ◌/◌, min, ◌≤◌, ◌≡◌, List, Bool, true, false, not, cond, ◌&&◌, eqb, length, take}
 use Rattle.std.specs.Prelude.{Option, Some}
+use Rattle.std.specs.Bool.{then_some}
 use Rattle.text.specs.Decimal.{lines_of, number_refusal}
 use Rattle.sector.specs.Places.{blocks_in}
 use Rattle.events.specs.Why.{why}
@@ -29,7 +30,7 @@ pub record Judged (bytes : List ℕ) (asked : ℕ) (q : Search) (o out : List �
   pub filled : Fetched (wanted_at asked q.replay.place) r.filled
   pub read : r.read ≡ judged_of r.filled
   pub size : length bytes ≡ r.read
-  pub search : looked true r.found r.used r.search ≡ look_of bytes asked o q
+  pub search : Some (looked (then_some r.found r.used) r.search) ≡ look_of bytes asked o q
   pub area : out ≡ area_after bytes asked o q
   pub within : r.used ≤ length o
   pub more : r.more ≡ (not r.found && eqb r.read 16384)

@@ -1,10 +1,18 @@
 -- What was read, of what was wanted, is searched, or its whole blocks after a read that failed; and the area has room.
-use Rattle.std.proofs.Common.{◌≡◌, ℕ, ◌≤◌, ◌++◌, length, take, drop, refl, subst, ◌∙◌, arith, length-append, length-drop}
+use Rattle.std.proofs.Common.{◌≡◌, ℕ, ◌≤◌, Bool, ◌++◌, length, take, drop, refl, sym, ap, subst, ◌∙◌, arith, length-append, length-drop}
 use lib.Seq.{length-take-le}
 use Rattle.program.specs.Pieces.{Fetched}
 use Rattle.program.proofs.Reading.{cond_most}
-use Rattle.mtrwhy.proofs.Pieces.{has_room_lem}
+use Rattle.std.specs.Prelude.{Option, Some, IsSome, IfSome, is_some}
+use Rattle.std.specs.Bool.{then_some}
+use Rattle.why.specs.declared.Looked.{Looked}
+use Rattle.why.specs.Search.{looked}
+use Rattle.mtrwhy.proofs.Pieces.{has_room_lem, some_used, used_within}
 use Rattle.mtrwhy.proofs.look_some.Goals as goal
+
+pub unwrap-looked-requires : goal.unwrap-looked-requires
+unwrap-looked-requires c =
+    subst IsSome (sym c.run.ensures.value) (has_room_lem _ c.args.asked c.args.out.now c.args.search c.requires.1)
 
 pub returns : goal.returns
 returns c =
@@ -21,13 +29,23 @@ returns c =
     let few : read ≤ length area =
     omega
     (arith, c.judged-read.ensures, cond_most got.failed got.got, c.fill-filled.ensures.most, part, long, c.wanted-want.ensures) in
-    let run = c.run-looked in
+    let run = c.run in
+    let found = c.unwrap-looked in
+    let value = sym run.ensures.value ∙ found.ensures in
+    let o = c.args.out.now in
+    let bounds : IfSome (Some found.result) (λ (l : Looked). IfSome l.used (λ (u : ℕ). u ≤ length o)) =
+    subst (λ (r : Option Looked). IfSome r (λ (l : Looked). IfSome l.used (λ (u : ℕ). u ≤ length o))) found.ensures run.ensures.used_in_bounds in
+    let used : then_some c.is_some-found.result c.unwrap_or.result ≡ found.result.used =
+    ap (λ (b : Bool). then_some b c.unwrap_or.result) c.is_some-found.ensures
+    ∙ ap (then_some (is_some found.result.used)) c.unwrap_or.ensures
+    ∙ some_used found.result.used
+    in
     record {
       filled = subst (λ (n : ℕ). Fetched n got) (part ∙ c.wanted-want.ensures) c.fill-filled.ensures;
       read = c.judged-read.ensures;
       size = length-take-le read area few;
-      search = has_room_lem (take read area) c.args.asked c.args.out.now c.args.search run.result c.requires.1 run.ensures.value;
+      search = ap (λ (u : Option ℕ). Some (looked u found.result.search)) used ∙ sym value;
       area = run.ensures.out_after;
-      within = run.ensures.used_in_bounds;
+      within = subst (λ (n : ℕ). n ≤ length o) (sym c.unwrap_or.ensures) (used_within found.result.used (length o) bounds);
       more = refl;
     }
