@@ -28,14 +28,14 @@ impl Scheduler {
     pub fn admit(mut self, number: u64, group: u64, reservation: u64) -> Answered
         ensures { result ≡ answered_to (admit number group reservation) (view self) }
     {
-        let test = self.tested();
-        let reserved = test.used;
+        let sums = self.tested();
+        let reserved = sums.unwrap_or([0; 16]);
         let groups = self.groups;
         let used = tree::load_of(groups, reserved, group);
         let at = (number % 64) as usize;
         let old = self.threads[at];
         let check = tree::admit_check(
-            test.ok,
+            sums.is_some(),
             old.status,
             groups,
             used,

@@ -2,6 +2,7 @@
 use Prim.Native.Nat.{◌≤◌}
 use native.Mathlib.Omega.{arith}
 use lib.ListN.{length}
+use mathlib.Core.List.{[]}
 use Rattle.soundness.proofs.List.{list_none, list_add, list_high, list_twice, list_end}
 use Rattle.soundness.proofs.list_seen.Goals as goal
 use Rattle.soundness.proofs.list_seen.Goals.{Start}
@@ -20,7 +21,7 @@ pub returns-then-t-ge-THREADS : goal.returns-then-t-ge-THREADS
 returns-then-t-ge-THREADS c =
     let l = c.loop-i in
     let s = (goal.at.returns-then-t-ge-THREADS c).Start in
-    list_high s.args.order s.args.count l.i l.seen l.invariant c.loop-i-test.true (long s) (omega arith)
+    list_high s.args.order s.args.count l.i l.seen l.invariant c.loop-i-test.true (long s) (omega arith) []
 
 pub bounds-seen-t : goal.bounds-seen-t
 bounds-seen-t c = omega arith
@@ -30,16 +31,10 @@ returns-then-seen-t c =
     let l = c.loop-i in
     let s = (goal.at.returns-then-seen-t c).Start in
     list_twice s.args.order s.args.count l.i l.seen l.invariant c.loop-i-test.true (long s)
-    (omega arith) c.if-seen-t.true
+    (omega arith) c.if-seen-t.true []
 
 pub bounds-seen-t-in-loop-i : goal.bounds-seen-t-in-loop-i
 bounds-seen-t-in-loop-i c = omega arith
-
-pub overflow_add-i : goal.overflow_add-i
-overflow_add-i c = omega arith
-
-pub loop-i-smaller : goal.loop-i-smaller
-loop-i-smaller c = omega arith
 
 pub loop-i-preserved : goal.loop-i-preserved
 loop-i-preserved c =

@@ -6,6 +6,7 @@ use Rattle.answers.specs.Numbers.{number_in}
 use Prim.Native.Nat.{ℕ}
 use Rattle.rule.specs.State.{State, thread_at}
 use Rattle.rule.specs.Refusals.{admit, refusal}
+use Rattle.soundness.proofs.Whole as whole
 use Rattle.scheduler.specs.View.{view}
 use Rattle.scheduler.proofs.threads.Replies.{rest}
 use Rattle.scheduler.proofs.groups.Stored.{admit_fits, admit_room, admit_done}
@@ -33,7 +34,9 @@ module _ (c : After-is_ok-accepted) where
 
   number : K ≡ refusal (admit N G F) S
   number =
-      let test = c.tested-test.ensures in
+      let test =
+      whole.tested S c.tested-sums.result c.tested-sums.ensures c.is_some.result c.is_some.ensures
+      c.unwrap_or-reserved.result c.unwrap_or-reserved.ensures in
       c.admit_check-check.ensures S test.test refl (λ w. c.load_of-used.ensures S refl (test.sums w))
       (λ h. ap (λ (n : ℕ). (thread_at S n).status) (rest N h))
 

@@ -11,6 +11,7 @@ use Rattle.base.specs.Checks.{within, ◌⇒◌, first_of}
 use Rattle.entry.specs.Entry.{is_reserved}
 use Rattle.rule.specs.State.{State, thread_at, with_thread}
 use Rattle.rule.specs.Refusals.{change, refusal}
+use Rattle.soundness.proofs.Whole as whole
 use Rattle.scheduler.specs.View.{view}
 use Rattle.scheduler.proofs.change.Laws.{change_number, change_done}
 use Rattle.scheduler.proofs.Scheduler.change.Goals as goal
@@ -33,7 +34,7 @@ module _ (c : After-change_check-check) where
   -- the checks, with the room and the kind as the code finds them
   abbrev checked : ℕ → Bool → ℕ
   checked space reserved =
-      first_of ((not c.tested-test.result.ok ⇒ 16) ∷ (ltb 63 N || not reserved ⇒ 7) ∷ (eqb S.running N ⇒ 9)
+      first_of ((not c.is_some.result ⇒ 16) ∷ (ltb 63 N || not reserved ⇒ 7) ∷ (eqb S.running N ⇒ 9)
       ∷ (not (within 1 1000 F) ⇒ 4) ∷ (ltb space F ⇒ 5) ∷ [])
 
   abbrev K : ℕ
@@ -45,9 +46,11 @@ module _ (c : After-change_check-check) where
 
   number : K ≡ refusal (change N F) S
   number =
-      let test = c.tested-test.ensures in
+      let test =
+      whole.tested S c.tested-sums.result c.tested-sums.ensures c.is_some.result c.is_some.ensures
+      c.unwrap_or-reserved.result c.unwrap_or-reserved.ensures in
       let own = (thread_at S (N % 64)).reservation in
-      change_number S N F c.tested-test.result.ok test.test room
+      change_number S N F c.is_some.result test.test room
       (λ w. ap (λ (j : ℕ). j + own) (c.free_in-free.ensures.1 S refl (λ h. c.load_of-used.ensures S refl (test.sums w) h)))
       K (roomed _ c.change_check-check.ensures (omega arith))
 
