@@ -8,13 +8,6 @@ ghost use Rattle.scheduler.specs.View.{view};
 use crate::{Answered, Scheduler, threads};
 use answers::Outcome;
 
-// The entry past the list's end after a call to admit a thread, whose number goes there.
-fn place_if(accepted: bool, old: u8, number: u8) -> u8
-    ensures { result ≡ cond accepted number old }
-{
-    if accepted { number } else { old }
-}
-
 // The list's length after a call to admit a thread.
 fn count_if(accepted: bool, count: u32) -> u32
     requires { accepted ≡ true → count < 64 }
@@ -55,7 +48,7 @@ impl Scheduler {
             reservation,
         );
         self.threads[at] = thread;
-        self.order[rear] = place_if(accepted, last, at as u8);
+        self.order[rear] = threads::either(accepted, at as u8, last);
         self.count = count_if(accepted, count);
         Answered {
             answer: threads::answered(check, Outcome::Done),

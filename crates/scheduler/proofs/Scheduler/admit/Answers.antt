@@ -55,5 +55,5 @@ returns c =
     let k = (goal.at.returns c).After-is_ok-accepted in
     admit_done (S k) (N k) (G k) (F k) (K k) (number k) c.answered.result c.answered.ensures
     c.admitted_if-thread.result (c.admitted_if-thread.ensures ∙ rw (ok k))
-    c.place_if.result (c.place_if.ensures ∙ rw (ok k))
+    c.either.result (c.either.ensures ∙ rw (ok k))
     c.count_if.result (c.count_if.ensures ∙ rw (ok k))

@@ -28,11 +28,11 @@ use Rattle.scheduler.specs.View.{view}
 use Rattle.scheduler.proofs.threads.Dispatch.{dispatch_number, looking, look_small, look_most, dispatch_done}
 use Rattle.scheduler.proofs.Scheduler.dispatch_given.Invariants.{beyond}
 use Rattle.scheduler.proofs.Scheduler.dispatch_given.Goals as goal
-use Rattle.scheduler.proofs.Scheduler.dispatch_given.Goals.{After-searched-count, else-loop-before-test}
+use Rattle.scheduler.proofs.Scheduler.dispatch_given.Goals.{After-either-count, else-loop-before-test}
 use Rattle.scheduler.proofs.Scheduler.dispatch_given.Goals.{then-loop-before-test+then-status-eq-RUNNABLE}
 
 -- after the number and the list's part that is looked at
-module _ (c : After-searched-count) where
+module _ (c : After-either-count) where
   abbrev S : State
   S = view c.args.self
 
@@ -43,13 +43,13 @@ module _ (c : After-searched-count) where
   ok = tested c.dispatch_check-check.result c.is_ok-accepted.result c.is_ok-accepted.ensures.value
 
   abbrev count : ℕ
-  count = c.searched-count.result
+  count = c.either-count.result
 
   number : code ≡ refusal dispatch S
   number = c.dispatch_check-check.ensures ∙ dispatch_number S c.args.ok c.requires
 
   part : count ≡ cond (eqb code 0) S.count 0
-  part = c.searched-count.ensures ∙ rw ok
+  part = c.either-count.ensures ∙ rw ok
 
   most : count ≤ 64
   most = look_most S code number count part
@@ -67,17 +67,17 @@ apart listed true n e h z = omega (arith, (cond_some true n 64 (sym e ∙ z)).1)
 apart listed false n e h z = none-some 64 (sym e ∙ z)
 
 pub bounds-self-before : goal.bounds-self-before
-bounds-self-before c = omega (arith, c.loop-before-test.true, most (goal.at.bounds-self-before c).After-searched-count)
+bounds-self-before c = omega (arith, c.loop-before-test.true, most (goal.at.bounds-self-before c).After-either-count)
 
 pub bounds-self-number : goal.bounds-self-number
 bounds-self-number c =
-    let t = (goal.at.bounds-self-number c).After-searched-count in
+    let t = (goal.at.bounds-self-number c).After-either-count in
     look_small (S t) (code t) (number t) (count t) (part t) c.loop-before.before c.loop-before-test.true
 
 pub loop-before-preserved : goal.loop-before-preserved
 unfolding runnable_at
 loop-before-preserved c =
-    let t = (goal.at.loop-before-preserved c).After-searched-count in
+    let t = (goal.at.loop-before-preserved c).After-either-count in
     let s = S t in
     let i = c.loop-before.before in
     let here : i < count t = c.loop-before-test.true in
@@ -110,7 +110,7 @@ overflow_cast-counted c =
       c.choice-taken.ensures.1,
       count_most (option_or c.then_some-listed.result (number_of l.efforts.best)) c.loop-before.before l.efforts.count,
       c.loop-before.invariant.0,
-      most (goal.at.overflow_cast-counted c).After-searched-count,
+      most (goal.at.overflow_cast-counted c).After-either-count,
       l.invariant.0,
       l.invariant.1,
     )
@@ -118,7 +118,7 @@ overflow_cast-counted c =
 pub returns : goal.returns
 unfolding with_run runnable_at
 returns c =
-    let t = (goal.at.returns c).After-searched-count in
+    let t = (goal.at.returns c).After-either-count in
     let s = S t in
     let l = c.loop-i in
     let n = c.loop-before.before in
@@ -140,5 +140,5 @@ returns c =
     (thread_of listed) (thread_of_listed listed (ltb n (count t)) first c.then_some-listed.ensures)
     c.unwrap_or-number.result (c.unwrap_or-number.ensures ∙ ap thread_of h.ensures.0 ∙ w.0)
     h.result.before (h.ensures.1 ∙ w.1) c.slice-slice.result c.slice-slice.ensures
-    c.time_if.result (c.time_if.ensures ∙ rw (ok t)) c.running_after.result (c.running_after.ensures ∙ rw (ok t))
+    c.time_if.result (c.time_if.ensures ∙ rw (ok t)) c.either.result (c.either.ensures ∙ rw (ok t))
     c.answered.result (c.answered.ensures ∙ ap (refused_or (code t)) c.outcome.ensures)

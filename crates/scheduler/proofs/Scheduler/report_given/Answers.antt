@@ -68,4 +68,4 @@ returns c =
     c.moves.result c.moves.ensures c.requeued-moved.result (c.requeued-moved.ensures ∙ rw (ok k))
     (c.meter_after-meter.ensures ∙ rw (ok k)) c.leaves.result c.leaves.ensures
     c.count_after.result (c.count_after.ensures ∙ rw (ok k))
-    c.running_after.result (c.running_after.ensures ∙ rw (ok k))
+    c.either.result (c.either.ensures ∙ rw (ok k))
