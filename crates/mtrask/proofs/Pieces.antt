@@ -15,9 +15,8 @@ use Rattle.text.proofs.Area.{over-length}
 use Rattle.sector.specs.Places.{blocks_in}
 use Rattle.sector.proofs.Places.{whole-blocks}
 use Rattle.summary.specs.declared.questions.Question.{Question}
-use Rattle.summary.specs.declared.questions.Answer.{Answer}
 use Rattle.summary.specs.declared.questions.Pass.{Pass}
-use Rattle.summary.specs.Questions.{answer_of, answers_of}
+use Rattle.summary.specs.Questions.{Answer, answer_of, answers_of}
 use Rattle.summary.specs.Pass.{unread, passed_to, settled_all, table_of}
 use Rattle.summary.proofs.Passes.{pass-whole, whole-pass}
 use Rattle.program.specs.declared.Filled.{Filled}

@@ -2,54 +2,42 @@
 use Prim.Native.Nat.{ℕ, ◌+◌, ◌*◌, ◌≤◌, ◌<◌, ◌^◌}
 use mathlib.Core.Path.{◌≡◌, refl, sym, ap, subst, ◌∙◌}
 use mathlib.Core.List.{List, [], ◌∷◌, ◌++◌, map}
-use mathlib.Core.Bool.{Bool, cond}
 use native.Mathlib.Omega.{arith}
 use native.Mathlib.Numerals.{add-one}
 use lib.ListN.{length, get_or, take}
 use lib.Seq.{take-suc}
-use borrow.Author.Tests.{eq-eqb, ne_eqb}
 use Rattle.text.specs.Decimal.{line_of, lines_of, written, next}
 use Rattle.text.proofs.Lines.{line_one}
 use Rattle.text.specs.Inner.{Wrote}
 use Rattle.text.proofs.Writing.{nothing, further, looser, put, two_most, text-append, one_line}
-use Rattle.summary.specs.declared.questions.Answer.{Answer}
-use Rattle.summary.specs.Questions.{answer}
+use Rattle.std.specs.Prelude.{Ok, Err}
+use Rattle.summary.specs.declared.questions.Unanswered.{Unanswered}
+use Rattle.summary.specs.Questions.{Answer, number_of}
 use Rattle.mtrask.specs.Promise.{numbers_of, answer_text}
 
-refused_line : (a : Answer) → (a.code ≡ 0 → ⊥) → line_of (a.code ∷ []) ≡ lines_of (numbers_of a ∷ [])
-unfolding numbers_of
-refused_line a f = sym (one_line (a.code ∷ [])) ∙ ap (λ (b : Bool). lines_of (cond b (0 ∷ a.ticks ∷ []) (a.code ∷ []) ∷ []))
-    (sym (ne_eqb a.code 0 f))
-
-told_line : (a : Answer) → a.code ≡ 0 → line_of (0 ∷ a.ticks ∷ []) ≡ lines_of (numbers_of a ∷ [])
-unfolding numbers_of
-told_line a z = sym (one_line (0 ∷ a.ticks ∷ [])) ∙ ap (λ (b : Bool). lines_of (cond b (0 ∷ a.ticks ∷ []) (a.code ∷ []) ∷ []))
-    (sym (eq-eqb a.code 0 z))
-
-module _ (o : List ℕ) (at : ℕ) (a : Answer) (out : List ℕ) (used : ℕ) (room : at + 42 ≤ length o) where
-  pub put_refused : {n : ℕ} → (a.code ≡ 0 → ⊥) → a.code < 2 ^ 64 → used ≡ next o at (line_of (n ∷ []))
-      → out ≡ written o at (line_of (n ∷ [])) → n ≡ a.code → Wrote o at (lines_of (numbers_of a ∷ [])) 42 out used
-  put_refused {n} f h e t en =
-      let line : line_of (n ∷ []) ≡ line_of (a.code ∷ []) = ap (λ (k : ℕ). line_of (k ∷ [])) en in
-      subst (λ (x : List ℕ). Wrote o at x 42 out used) (refused_line a f)
-      (put o at (line_of (a.code ∷ [])) 42 out used (omega (arith, line_one a.code h)) room (e ∙ ap (next o at) line)
+module _ (o : List ℕ) (at : ℕ) (out : List ℕ) (used : ℕ) (room : at + 42 ≤ length o) where
+  pub put_refused : (why : Unanswered) (n : ℕ) → n ≡ number_of why → number_of why < 2 ^ 64 → used ≡ next o at (line_of (n ∷ []))
+      → out ≡ written o at (line_of (n ∷ [])) → Wrote o at (lines_of (numbers_of (Err why) ∷ [])) 42 out used
+  unfolding numbers_of
+  put_refused why n en h e t =
+      let line : line_of (n ∷ []) ≡ line_of (number_of why ∷ []) = ap (λ (k : ℕ). line_of (k ∷ [])) en in
+      subst (λ (x : List ℕ). Wrote o at x 42 out used) (sym (one_line (number_of why ∷ [])))
+      (put o at (line_of (number_of why ∷ [])) 42 out used (omega (arith, line_one (number_of why) h)) room (e ∙ ap (next o at) line)
       (t ∙ ap (written o at) line))
 
-  pub put_told : {z n : ℕ} → a.code ≡ 0 → a.ticks < 2 ^ 64 → used ≡ next o at (line_of (z ∷ n ∷ []))
-      → out ≡ written o at (line_of (z ∷ n ∷ [])) → z ≡ 0 → n ≡ a.ticks → Wrote o at (lines_of (numbers_of a ∷ [])) 42 out used
-  put_told {z} {n} c h e t ez en =
-      let line : line_of (z ∷ n ∷ []) ≡ line_of (0 ∷ a.ticks ∷ []) =
-      ap (λ (k : ℕ). line_of (k ∷ n ∷ [])) ez ∙ ap (λ (k : ℕ). line_of (0 ∷ k ∷ [])) en in
-      subst (λ (x : List ℕ). Wrote o at x 42 out used) (told_line a c)
-      (put o at (line_of (0 ∷ a.ticks ∷ [])) 42 out used (two_most 0 a.ticks (omega arith) h) room (e ∙ ap (next o at) line)
-      (t ∙ ap (written o at) line))
+  pub put_told : (n : ℕ) → n < 2 ^ 64 → used ≡ next o at (line_of (0 ∷ n ∷ [])) → out ≡ written o at (line_of (0 ∷ n ∷ []))
+      → Wrote o at (lines_of (numbers_of (Ok n) ∷ [])) 42 out used
+  unfolding numbers_of
+  put_told n h e t =
+      subst (λ (x : List ℕ). Wrote o at x 42 out used) (sym (one_line (0 ∷ n ∷ [])))
+      (put o at (line_of (0 ∷ n ∷ [])) 42 out used (two_most 0 n (omega arith) h) room e t)
 
 map_more : (l : List Answer) (a : Answer) → map numbers_of (l ++ (a ∷ [])) ≡ map numbers_of l ++ (numbers_of a ∷ [])
 map_more [] a = refl
 map_more (x ∷ l) a = ap (λ (z : List (List ℕ)). numbers_of x ∷ z) (map_more l a)
 
 abbrev none : Answer
-none = answer 0 0
+none = Ok 0
 
 pub answers-none : (o : List ℕ) (answers : List Answer) → Wrote o 0 (answer_text (take 0 answers)) (42 * 0) o 0
 unfolding answer_text lines_of

@@ -3,13 +3,13 @@
 -- until the last read answered 0 or less; as many bytes as the lines of the answers have are handed to the write. Which texts the
 -- arguments are, which bytes the summary has, and which stand in the output, no contract can say.
 use Rattle.std.specs.Prelude.{ℕ, ◌-◌, ◌*◌, ◌/◌, ◌%◌, ◌≤◌, ◌≡◌, List, [], ◌∷◌, map, length, take}
-use Rattle.std.specs.Prelude.{Bool, true, false, cond, ◌&&◌, ltb, leb, eqb, Option, Some, None}
+use Rattle.std.specs.Prelude.{Bool, true, false, cond, ◌&&◌, ltb, leb, eqb, Option, Some, None, Ok, Err}
 use Rattle.text.specs.Decimal.{lines_of, number_of}
 use Rattle.sector.specs.Places.{blocks_in}
 use Rattle.summary.specs.declared.questions.Question.{Question}
-use Rattle.summary.specs.declared.questions.Answer as Told
 use Rattle.summary.specs.declared.questions.Pass.{Pass}
-use Rattle.summary.specs.Questions.{answers_of}
+use Rattle.summary.specs.Questions as question
+use Rattle.summary.specs.Questions.{Answer, answers_of}
 use Rattle.summary.specs.Pass.{unread, passed_to}
 use Rattle.program.specs.declared.Opened.{Opened}
 use Rattle.program.specs.declared.Opened.TheVariants as Opening
@@ -69,10 +69,11 @@ pub record Parsed (r : Asked) : Type 0 where
 -- The answers.
 
 -- the line of an answer: 0 and the ticks, or the refusal
-unfoldable pub numbers_of : Told.Answer → List ℕ
-numbers_of a = cond (eqb a.code 0) (0 ∷ a.ticks ∷ []) (a.code ∷ [])
+unfoldable pub numbers_of : Answer → List ℕ
+numbers_of (Ok ticks) = 0 ∷ ticks ∷ []
+numbers_of (Err why) = question.number_of why ∷ []
 
-unfoldable pub answer_text : List Told.Answer → List ℕ
+unfoldable pub answer_text : List Answer → List ℕ
 answer_text answers = lines_of (map numbers_of answers)
 
 -- a piece: its bytes, by the pass before them. The file goes on where all 16384 bytes were judged

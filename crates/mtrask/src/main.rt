@@ -173,12 +173,12 @@ fn pass_some(
     count: usize,
     input: &mut [u8],
 ) -> Piece
-    requires { length input.old ≡ 16384 }
+    requires { (count ≤ 64) × (length input.old ≡ 16384) }
     ensures { Judged (take result.read input.new) (take count questions) pass result }
 {
     let filled = program::fill(file, input);
     let read = filled.judged();
-    let after = pass.run(questions, count, &input[..read]);
+    let after = pass.run(&questions[..count], &input[..read]);
     Piece {
         pass: after,
         read: read,
@@ -190,6 +190,7 @@ fn pass_some(
 // Passes over the file piece by piece. A proved loop has to end, and nothing says that the file does: so pieces are counted down from a
 // number that no run uses up (2^49 pieces are 8 EiB).
 fn pass_all(file: &mut File, questions: [Question; 64], count: usize) -> Held
+    requires { count ≤ 64 }
     ensures { Passed (take count questions) result }
 {
     let mut input = [0u8; INPUT];
@@ -218,13 +219,10 @@ fn put_answer(out: &mut [u8], at: usize, a: Answer) -> usize
     requires { at + 42 ≤ length out.old }
     ensures { Wrote out.old at (lines_of (numbers_of a ∷ [])) 42 out.new result }
 {
-    let code = a.code;
-    if code != 0 {
-        let refused = [code as u64];
-        return text::put_line(out, at, &refused);
+    match a {
+        Ok(ticks) => text::put_line(out, at, &[0, ticks]),
+        Err(why) => text::put_line(out, at, &[u64::from(u32::from(why))]),
     }
-    let told = [0, a.ticks];
-    text::put_line(out, at, &told)
 }
 
 // The lines of the first answers, at the front of the area.
@@ -250,7 +248,7 @@ fn look(file: &mut File, questions: [Question; 64], count: usize) -> Outcome
     let held = pass_all(file, questions, count);
     let pass = held.pass;
     let last = held.last;
-    let table = pass.answers(questions, count);
+    let table = pass.answers(&questions[..count]);
     let mut out = [0u8; ROOM];
     let used = put_answers(&mut out, table, count);
     Outcome {
