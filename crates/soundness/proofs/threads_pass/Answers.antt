@@ -8,7 +8,6 @@ use Rattle.entry.specs.declared.Thread.{Thread}
 use Rattle.entry.specs.Entry.{no_thread}
 use Rattle.entry.proofs.Laws.{strict}
 use lib.ListN.{get_or, replicate}
-use borrow.Author.Tests.{not-false}
 use Rattle.soundness.specs.Inner.{given, listed_ok, sums_in, ThreadsPass}
 use Rattle.soundness.proofs.Threads.{numbers_of_lem, inv_list, inv_none, inv_skip, inv_stray}
 use Rattle.soundness.proofs.Threads.{inv_bad, inv_add, sum_fits, inv_idle, inv_run, inv_stop}

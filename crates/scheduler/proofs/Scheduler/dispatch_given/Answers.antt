@@ -3,7 +3,7 @@
 -- no thread of the list was found: what the search among the best-effort threads has found so far.
 use Prim.Native.Nat.{ℕ, ◌+◌, ◌%◌, min, ◌≤◌, ◌<◌}
 use mathlib.Core.Path.{◌≡◌, sym, ap, subst, ◌∙◌}
-use mathlib.Core.Bool.{Bool, true, false, cond, ◌&&◌}
+use mathlib.Core.Bool.{Bool, true, false, cond}
 use Rattle.answers.proofs.Refusals.{tested}
 use Rattle.answers.specs.Numbers.{refused_or, number_in}
 use native.Mathlib.Omega.{arith}
