@@ -27,7 +27,8 @@ returns-then-number-ge-GROUPS c = λ s w g l.
     let fine = sym w ∙ c.if-not-ok.false in
     let up = parent (goal.at.returns-then-number-ge-GROUPS c).Else-not-is_open s g in
     elim c.then-number-ge-GROUPS.branch [
-      | then-number-ge-GROUPS-via-then-number-ge-GROUPS v ↦ open_high s c.args.number c.args.parent c.args.ceiling fine up v.if-number-ge-GROUPS.true
+      | then-number-ge-GROUPS-via-then-number-ge-GROUPS v ↦
+          open_high s c.args.number c.args.parent c.args.ceiling fine up v.if-number-ge-GROUPS.true
       | then-number-ge-GROUPS-via-else-number-ge-GROUPS+then-is_open v ↦
           open_twice s c.args.number c.args.parent c.args.ceiling fine up v.if-number-ge-GROUPS.false
           (sym (v.is_open-else-number-ge-GROUPS.ensures s g) ∙ v.if-is_open.true)

@@ -135,7 +135,8 @@ returns c =
     let first : ℕ = get_or s.order (n % 64) 0 % 64 in
     let h = c.choice-taken in
     let w =
-    taken s.threads listed n l.i l.efforts (apart listed (ltb n (count t)) first c.then_some-listed.ensures (omega arith)) l.invariant.2 c.loop-i-test.false in
+    taken s.threads listed n l.i l.efforts
+    (apart listed (ltb n (count t)) first c.then_some-listed.ensures (omega arith)) l.invariant.2 c.loop-i-test.false in
     dispatch_done s (code t) (number t) (count t) (part t) n c.loop-before.invariant.0 all
     (thread_of listed) (thread_of_listed listed (ltb n (count t)) first c.then_some-listed.ensures)
     c.unwrap_or-number.result (c.unwrap_or-number.ensures ∙ ap thread_of h.ensures.0 ∙ w.0)
