@@ -3,11 +3,13 @@
 #![tactic(auto)]
 
 ghost use Rattle.std.specs.Prelude.{◌≡◌, [], ◌∷◌, cond, min, length, take};
+ghost use Rattle.block.specs.Block.{refusal_of};
 ghost use Rattle.text.specs.Decimal.{line_of};
 ghost use Rattle.mtrsum.specs.Promise.{whole_of, Judged, Reviewed, Sent, Summed, no_sum, Lined, Concluded, Summarized, Served};
 
 use program::{Filled, Opened, Written};
 use sector::place::BLOCK;
+use sector::refusal::Refusal;
 use std::fs::File;
 use std::io;
 use std::io::{ErrorKind, Seek, SeekFrom};
@@ -74,6 +76,16 @@ struct Done {
     sum: Sum,
 }
 
+// The number of a refusal, or 0.
+fn number(refused: Result<(), Refusal>) -> u32
+    ensures { result ≡ refusal_of refused }
+{
+    match refused {
+        Ok(()) => 0,
+        Err(refusal) => refusal.into(),
+    }
+}
+
 // Whether a piece is whole: no block of it is refused, and all the bytes that are wanted were read.
 fn is_whole(refusal: u32, read: usize, want: usize) -> bool
     ensures { result ≡ whole_of refusal read want }
@@ -94,7 +106,7 @@ fn judge_some(file: &mut File, place: u64, input: &mut [u8]) -> Look
 {
     let filled = program::fill(file, input);
     let read = filled.judged();
-    let refusal = usage::first_refusal(place, &input[..read]);
+    let refusal = number(usage::first_refusal(place, &input[..read]));
     Look {
         read: read,
         refusal: refusal,
@@ -174,9 +186,9 @@ fn sum_some<R: Print + Eprint>(
     let want = wanted(left);
     let filled = program::fill(file, &mut input[..want]);
     let got = filled.count();
-    let ran = usage.run(&input[..got], out);
+    let ran = usage.run(&input[..got], out).unwrap();
     let after = ran.usage;
-    let refusal = ran.refusal;
+    let refusal = number(ran.refused);
     let same = is_whole(refusal, got, want);
     let used = usage::PAIR * ((got + 511) / BLOCK);
     let written = send(rt, &out[..], used, same, filled);
