@@ -5,6 +5,7 @@ use Rattle.base.specs.Same.{same}
 use Rattle.base.specs.Examples.{agree}
 use Rattle.sector.specs.Places.{next_place, blocks_in}
 use Rattle.sector.specs.Seal.{sums, is_sealed}
+use Rattle.record.specs.Kinds.{numbered}
 use Rattle.record.specs.Record.{used_by, has_form}
 use Rattle.block.specs.Block.{block_of, body_of, parts_of, read_of, is_block, records_in, all_form}
 use Rattle.rule.specs.Refusals.{start_refusal}
@@ -20,7 +21,7 @@ use Rattle.usage.specs.Usage.{charged_by, ticks_in, count_at, first_refusal, eve
 use Rattle.examples.specs.Usage.{began, again, used, asked, usage_table}
 
 unfoldable parts : Unit {0}
-unfolding same sums is_sealed used_by has_form block_of body_of parts_of read_of is_block records_in all_form start_refusal start_reply
+unfolding same sums is_sealed numbered used_by has_form block_of body_of parts_of read_of is_block records_in all_form start_refusal start_reply
     request_of
 parts = tt
 
