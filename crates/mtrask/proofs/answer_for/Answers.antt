@@ -1,7 +1,5 @@
--- The questions that are told about are those asked.
-use Rattle.std.proofs.Common.{arith}
-use Rattle.mtrask.proofs.Pieces.{told_file}
+use Rattle.mtrask.specs.Promise.{told}
 use Rattle.mtrask.proofs.answer_for.Goals as goal
 
 pub returns : goal.returns
-returns g c = told_file c.in-File.file c.in-File.is c.tell.ensures (omega arith)
+returns g c = told c.in-Some.file c.in-Some.is c.tell.ensures

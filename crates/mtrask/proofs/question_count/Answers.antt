@@ -9,8 +9,8 @@ returns-then-all-lt5 c = count_few c.args.all (omega arith)
 pub returns-then-all-gt194 : goal.returns-then-all-gt194
 returns-then-all-gt194 c = count_many c.args.all (omega arith)
 
-pub returns-then-rest-ne0 : goal.returns-then-rest-ne0
-returns-then-rest-ne0 c = count_parts c.args.all (λ e. omega (arith, e))
+pub returns-then-rest-eq0 : goal.returns-then-rest-eq0
+returns-then-rest-eq0 c = count_is c.args.all (omega arith) (omega arith) (omega arith)
 
-pub returns : goal.returns
-returns c = omega (arith, count_is c.args.all (omega arith) (omega arith) (omega arith))
+pub returns-else-rest-eq0 : goal.returns-else-rest-eq0
+returns-else-rest-eq0 c = count_parts c.args.all (λ e. omega (arith, e))

@@ -1,36 +1,39 @@
 -- One piece more, or the last.
-use Rattle.std.proofs.Common.{◌≤◌, refl, ◌∙◌, arith}
-use Rattle.mtrsum.proofs.Pieces.{sent_none, sent_more, turned, turned-not, ended_cut}
+use Rattle.std.proofs.Common.{◌≡◌, ◌-◌, ◌+◌, ◌≤◌, length, min, sym, ◌∙◌, arith}
+use lib.Seq.{length-take-le}
+use Rattle.mtrsum.proofs.Pieces.{sent_none, sent_more, sent-changed, sent-unwritten}
 use Rattle.mtrsum.proofs.write_summary.Goals as goal
 
 pub loop-left-init : goal.loop-left-init
-loop-left-init g c = (refl, refl, sent_none c.new-usage.result c.new-usage.ensures, omega arith, λ _. refl)
+loop-left-init g c = (sent_none _ c.new-usage.result (omega arith) c.new-usage.ensures, omega arith, λ _. omega arith)
 
-pub returns-then-not-piece : goal.returns-then-not-piece
-returns-then-not-piece g c =
+pub returns-in-Err : goal.returns-in-Err
+returns-in-Err g c =
     let at = c.loop-left in
-    let r = c.sum_some-piece.result in
-    record {
-      bytes = at.invariant.2.bytes;
-      sent = at.invariant.2.size;
-      most = omega (arith, at.invariant.3);
-      none = at.invariant.2.none;
-      after = at.invariant.2.after;
-      ended =
-          ended_cut c.args.size at.sent at.left at.usage _ _ r at.invariant.3 c.sum_some-piece.ensures
-          (turned r.more c.if-not-piece.true);
-    }
+    let want = c.wanted-want.result in
+    let size : length c.sum_some.new.input ≡ min 16384 at.left =
+    c.sum_some.auto.input ∙ length-take-le want at.input (omega (arith, c.wanted-want.ensures)) ∙ c.wanted-want.ensures in
+    sent-changed c.args.size _ at.left at.usage at.invariant.0 (omega (arith, at.invariant.1)) _ size c.in-Err.filled c.in-Err.ensures
+
+pub returns-then-not-is_done : goal.returns-then-not-is_done
+returns-then-not-is_done g c =
+    let at = c.loop-left in
+    let want = c.wanted-want.result in
+    let size : length c.sum_some.new.input ≡ min 16384 at.left =
+    c.sum_some.auto.input ∙ length-take-le want at.input (omega (arith, c.wanted-want.ensures)) ∙ c.wanted-want.ensures in
+    sent-unwritten c.args.size _ at.left at.usage at.invariant.0 (omega (arith, at.invariant.1)) _ size _ c.in-Ok.piece c.in-Ok.ensures
+    (sym c.is_done.ensures ∙ c.if-not-is_done.true)
 
 pub loop-left-preserved : goal.loop-left-preserved
 loop-left-preserved g c =
-    let some = c.sum_some-piece in
     let at = c.loop-left in
+    let want = c.wanted-want.result in
     let below : c.args.size ≤ 18446744073709551615 = omega (arith, c.ranges.size.fits) in
-    let whole = at.invariant.4 (omega arith) in (
-      some.auto.input ∙ at.invariant.0,
-      some.auto.out ∙ at.invariant.1,
-      sent_more at.sent at.left at.usage _ _ some.result at.invariant.2 whole (omega (arith, at.invariant.3, below))
-          some.ensures (turned-not some.result.more c.if-not-piece.false),
-      omega (arith, at.invariant.3, some.ensures.want),
-      (λ h. omega (arith, h, whole, some.ensures.want)),
+    let whole = at.invariant.2 (omega arith) in
+    let size : length c.sum_some.new.input ≡ want =
+    c.sum_some.auto.input ∙ length-take-le want at.input (omega (arith, c.wanted-want.ensures)) in (
+      sent_more (c.args.size - at.left) _ at.usage _ _ c.in-Ok.piece at.invariant.0 whole (omega (arith, below))
+          (omega (arith, size, at.invariant.1, c.wanted-want.ensures)) c.in-Ok.ensures,
+      omega (arith, at.invariant.1),
+      (λ h. omega (arith, h, whole, c.wanted-want.ensures, at.invariant.1)),
     )

@@ -1,7 +1,5 @@
--- The record that is told about is the one asked for.
-use Rattle.std.proofs.Common.{arith}
-use Rattle.mtrwhy.proofs.Pieces.{told_file}
+use Rattle.mtrwhy.specs.Promise.{told}
 use Rattle.mtrwhy.proofs.answer_for.Goals as goal
 
 pub returns : goal.returns
-returns g c = told_file c.in-File.file c.in-File.is c.tell.ensures (omega arith)
+returns g c = told c.in-Some.file c.in-Some.is c.tell.ensures
