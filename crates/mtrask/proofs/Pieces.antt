@@ -1,15 +1,12 @@
 -- Pieces of a summary, one after the other: what is held between them is the pass over all the bytes so far, and at the end the text is the
 -- lines of the answers from all the bytes.
 use Prim.Native.Nat.{ℕ, ◌+◌, ◌*◌, ◌/◌, ◌%◌, ◌≤◌, ◌<◌}
-use mathlib.Core.Path.{◌≡◌, refl, sym, ap, subst, ◌∙◌}
+use mathlib.Core.Path.{◌≡◌, refl, sym, ap, ◌∙◌}
 use mathlib.Core.List.{List, [], ◌++◌}
-use mathlib.Core.Bool.{Bool, true, false, not, cond, ◌&&◌}
+use mathlib.Core.Bool.{Bool, false, cond}
 use native.Mathlib.Omega.{arith}
-use lib.Dec.{T, eqb}
 use lib.ListN.{length, take, length-append, length-map}
 use lib.Seq.{length-take-le, take_at}
-use borrow.Author.Tests.{eqb-true}
-use Rattle.base.proofs.Bools.{cases, holds, clash}
 use Rattle.text.specs.Inner.{Wrote}
 use Rattle.text.proofs.Area.{over-length}
 use Rattle.sector.specs.Places.{blocks_in}

@@ -3,7 +3,7 @@
 -- until the last read gave no bytes; as many bytes as the lines of the answers have are handed to the write. Which texts the
 -- arguments are, which bytes the summary has, and which stand in the output, no contract can say.
 use Rattle.std.specs.Prelude.{ℕ, ◌-◌, ◌*◌, ◌/◌, ◌%◌, ◌≤◌, ◌≡◌, List, [], ◌∷◌, map, length, take}
-use Rattle.std.specs.Prelude.{Bool, true, false, cond, ◌&&◌, leb, eqb, Option, Some, None, Ok, Err}
+use Rattle.std.specs.Prelude.{false, cond, ◌&&◌, leb, eqb, Option, Some, None, Ok, Err}
 use Rattle.std.specs.declared.fs.File.{File}
 use Rattle.text.specs.Decimal.{lines_of, number_of}
 use Rattle.sector.specs.Places.{blocks_in}

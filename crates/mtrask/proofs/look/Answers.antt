@@ -1,5 +1,5 @@
 -- The pass over the file, the answers at its end, and their lines.
-use Rattle.std.proofs.Common.{refl, arith, rules}
+use Rattle.std.proofs.Common.{arith, rules}
 use Rattle.mtrask.proofs.Pieces.{passed_none, looked_is}
 use Rattle.mtrask.proofs.look.Goals as goal
 

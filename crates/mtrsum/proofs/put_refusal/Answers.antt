@@ -1,10 +1,9 @@
 -- The line of a refusal has at most 21 bytes, so that all of it stands in the text.
-use Rattle.std.proofs.Common.{◌≡◌, ℕ, [], ◌∷◌, length, take, subst, ap, ◌∙◌, arith}
+use Rattle.std.proofs.Common.{◌≡◌, ℕ, [], ◌∷◌, length, take, ap, ◌∙◌, arith}
 use Rattle.text.specs.Decimal.{line_of, next, written}
 use Rattle.text.proofs.Lines.{line_one}
 use Rattle.text.proofs.Writing.{put}
 use Rattle.program.proofs.Writing.{front}
-use Rattle.mtrsum.specs.Promise.{Lined}
 use Rattle.mtrsum.proofs.put_refusal.Goals as goal
 
 pub returns : goal.returns

@@ -1,5 +1,5 @@
 -- One piece more, or the last.
-use Rattle.std.proofs.Common.{◌≡◌, ◌-◌, ◌+◌, ◌≤◌, length, min, sym, ◌∙◌, arith}
+use Rattle.std.proofs.Common.{◌≡◌, ◌-◌, ◌≤◌, length, min, sym, ◌∙◌, arith}
 use lib.Seq.{length-take-le}
 use Rattle.mtrsum.proofs.Pieces.{sent_none, sent_more, sent-changed, sent-unwritten}
 use Rattle.mtrsum.proofs.write_summary.Goals as goal

@@ -1,5 +1,5 @@
 -- The bytes of the piece are searched, and the area has room.
-use Rattle.std.proofs.Common.{◌≡◌, ℕ, ◌≤◌, length, sym, subst, ◌∙◌, rules}
+use Rattle.std.proofs.Common.{ℕ, ◌≤◌, length, sym, subst, ◌∙◌, rules}
 use Rattle.std.specs.Prelude.{Option, Some, IsSome, IfSome}
 use Rattle.why.specs.declared.Looked.{Looked}
 use Rattle.mtrwhy.proofs.Pieces.{has_room_lem, sofar_more, full}
