@@ -65,7 +65,7 @@ returns c =
     ap number_of_reason c.reason_read.ensures
     ∙ reason_small c.args.reason (known k (ok k ∙ z)).known)
     c.reported-reported.result c.meter_after-meter.result (c.reported-reported.ensures ∙ rw (ok k))
-    c.moves.result c.moves.ensures c.relisted-moved.result (c.relisted-moved.ensures ∙ rw (ok k))
+    c.moves.result c.moves.ensures c.requeued-moved.result (c.requeued-moved.ensures ∙ rw (ok k))
     (c.meter_after-meter.ensures ∙ rw (ok k)) c.leaves.result c.leaves.ensures
     c.count_after.result (c.count_after.ensures ∙ rw (ok k))
     c.either.result (c.either.ensures ∙ rw (ok k))
