@@ -6,7 +6,7 @@ use mathlib.Core.Bool.{Bool, true, false, cond, ◌&&◌}
 use native.Mathlib.Omega.{arith}
 use native.Mathlib.Numerals.{add-one}
 use lib.Dec.{leb, eqb}
-use Rattle.std.specs.Prelude.{Option, Some, None}
+use Rattle.std.specs.Prelude.{Some, None}
 use Rattle.std.proofs.Common.{replicate}
 use Rattle.std.proofs.lemmas.List.{length-replicate}
 use lib.ListN.{length, get_or, set, take, length-append}
@@ -195,7 +195,9 @@ asked-more {x} {y} {z} i values questions h room ex ey ez e =
 pub unspelt : (all count : ℕ) (v : Option (List ℕ)) (r : Option Questions) → question_count all ≡ Some count → Said (3 * count) v
     → v ≡ None → r ≡ None → Parsed r
 unspelt all count v r e w n f =
-    counted all count w.texts e w.size (ap all_asked f ∙ ap (λ (o : Option (List ℕ)). asked_by (front_of (3 * count) o)) (sym n) ∙ ap asked_by w.values)
+    counted all count w.texts e w.size (ap all_asked f ∙ ap (λ (o : Option (List ℕ)). asked_by (front_of (3 * count) o)) (sym n)
+        ∙ ap asked_by w.values)
+
     (λ q h. absurd (none_some q (sym f ∙ h)))
 
 pub spelt : (all count : ℕ) (v : Option (List ℕ)) (values : List ℕ) (q : Questions) → question_count all ≡ Some count

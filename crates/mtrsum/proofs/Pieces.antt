@@ -110,7 +110,9 @@ sent-all size u w = record {
 }
 
 -- why the second reading ends before its end
-module _ (size sent left : ℕ) (u : Usage) (w : Sent-sofar sent u) (e : sent + left ≡ size) (area : List ℕ) (n : length area ≡ min 16384 left)
+module _ (size sent left : ℕ) (u : Usage) (w : Sent-sofar sent u) (e : sent + left ≡ size) (area : List ℕ) (n : length area
+    ≡ min 16384 left)
+
     where
   pub sent-changed : (f : Filled) → Other area u f → Summed size (record { sent = sent; usage = u; end = Err (Changed f) })
   sent-changed f g = record {

@@ -9,7 +9,9 @@ consume-extent-requires-clause-sofar c = sofar_none c.args.asked c.new.result _ 
 pub returns-in-Some : goal.returns-in-Some
 returns-in-Some c =
     let end = c.consume-extent in
-    told-found c.args.asked end.result _ end.new.state.found end.new.state.text end.ensures.sofar end.ensures.pieces c.in-Some.used c.in-Some.is
+    told-found c.args.asked end.result _ end.new.state.found end.new.state.text end.ensures.sofar end.ensures.pieces c.in-Some.used
+        c.in-Some.is
+
 
 pub returns-in-Some-error : goal.returns-in-Some-error
 returns-in-Some-error c =

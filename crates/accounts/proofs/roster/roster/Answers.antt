@@ -9,7 +9,8 @@ use Rattle.scheduler.specs.View.{view}
 use Rattle.accounts.proofs.Signed.{lag_bits}
 use Rattle.accounts.proofs.Keys.{key_lag}
 use Rattle.accounts.proofs.Overlay.{overlaid-none}
-use Rattle.accounts.proofs.Rows.{not_sound, table-refused, too_short, accepts, key_at, key_bounded, key_allotment, stores, all-stored, entry_is}
+use Rattle.accounts.proofs.Rows.{not_sound, table-refused, too_short, accepts, key_at, key_bounded, key_allotment, stores, all-stored}
+use Rattle.accounts.proofs.Rows.{entry_is}
 use Rattle.accounts.proofs.roster.roster.Goals as goal
 
 pub returns-then-not-sound-clause-answer : goal.returns-then-not-sound-clause-answer

@@ -18,7 +18,9 @@ use Rattle.entry.proofs.Thread.remaining.Goals.{After-after}
 module _ (c : After-after) where
   -- the allotment after a report
   abbrev left : ℤ
-  left = after_report c.args.self.allotment (c.args.self.reservation * c.args.thousandth) (eqb (number_of_reason c.args.report.reason) 2) c.args.report.used
+  left = after_report c.args.self.allotment (c.args.self.reservation * c.args.thousandth) (eqb
+      (number_of_reason c.args.report.reason) 2) c.args.report.used
+
 
   made : c.after.result ≡ left
   made = search rules
