@@ -39,6 +39,8 @@ pub record Reviewed (r : Verdict) : Type 0 where
 -- A piece of the second reading, all of whose bytes came, with the usage before it and the area after it: no block of it is refused, and
 -- its part of the summary stands at the front of the area and is handed to the write
 pub record Whole (bytes : List ℕ) (u : Usage) (out : List ℕ) (p : Piece) : Type 0 where
+  pub filled : Fetched (length bytes) p.filled
+  pub came : p.filled.got ≡ length bytes
   pub none : first_in (blocks_in bytes) bytes u.replay.place ≡ 0
   pub after : p.usage ≡ used_to (blocks_in bytes) bytes u
   pub handed : p.written.handed ≡ 1024 * blocks_in bytes

@@ -30,11 +30,12 @@ struct Verdict {
     extent: Extent,
 }
 
-// A piece of the second reading that is what it was at the first: what comes after it, and what was written of its summary.
+// A piece of the second reading that is what it was at the first: what comes after it, what was written of its summary, and what was read.
 #[derive(Drop)]
 struct Piece {
     usage: Usage,
     written: Written,
+    filled: Filled,
 }
 
 // Why the second reading ended before its end: a piece, as it was read, is not what it was, or not all of its summary was written.
@@ -137,6 +138,7 @@ fn sum_some<R: Print + Eprint>(rt: &R, file: &mut File, usage: Usage, input: &mu
     Ok(Piece {
         usage: ran.usage,
         written: program::write(rt, summary, b"mtrsum: standard output"),
+        filled,
     })
 }
 

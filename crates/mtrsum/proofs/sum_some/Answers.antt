@@ -82,6 +82,8 @@ returns g c =
     let handed : c.write.result.handed ≡ 1024 * blocks_in area =
     c.write.ensures ∙ length-take-le (1024 * ((got + 511) / 512)) out (omega (arith, used, room, c.run.auto.out)) ∙ used in
     record {
+      filled = c.fill-filled.ensures;
+      came = sym c.count-got.ensures ∙ z.1;
       none = sym is.0 ∙ z.0;
       after = is.1;
       handed = handed;
