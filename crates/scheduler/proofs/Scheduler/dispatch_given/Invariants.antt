@@ -22,6 +22,3 @@ decreases-loop-before l = l.count - l.before
 
 abbrev pub invariant-loop-i : goal.invariant-loop-i
 invariant-loop-i l = (l.i ≤ 64) × (l.efforts.count ≤ l.i) × (l.listed ≡ None → Found l.self.threads l.i l.efforts)
-
-abbrev pub decreases-loop-i : goal.decreases-loop-i
-decreases-loop-i l = 64 - l.i
