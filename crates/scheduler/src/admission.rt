@@ -9,6 +9,7 @@ use crate::{Answered, Scheduler, threads};
 use answers::Outcome;
 
 // The list's length after a call to admit a thread.
+// Not one with `count_after`: each has a bound of its own, where it counts.
 fn count_if(accepted: bool, count: u32) -> u32
     requires { accepted ≡ true → count < 64 }
     ensures { result ≡ cond accepted (count + 1) count }
