@@ -60,7 +60,7 @@ struct Done {
     sum: Option<Sum>,
 }
 
-// The number of a refusal, or 0.
+// The number of a refusal, or 0: what is printed, and what `Sofar` is about.
 fn number(refused: Result<(), Refusal>) -> u32
     ensures { result ≡ refusal_of refused }
 {
@@ -151,6 +151,7 @@ fn write_summary<R: Print + Eprint>(rt: &R, file: &mut File, size: u64) -> Sum
     let mut out = [0u8; OUTPUT];
     let mut usage = Usage::new();
     let mut left = size;
+    // No `for`: what is left is what the next piece is cut from.
     while left > 0 {
         let want = wanted(left);
         let sent = size - left;

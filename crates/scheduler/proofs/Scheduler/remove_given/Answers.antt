@@ -31,4 +31,4 @@ returns c =
     remove_done s a.number code (remove_number s a.number a.ok c.requires code c.remove_check-check.ensures)
     c.answered.result c.answered.ensures
     c.has_reservation.result c.has_reservation.ensures c.freed-freed.result (c.freed-freed.ensures ∙ rw y)
-    c.relisted-moved.result (c.relisted-moved.ensures ∙ rw y) c.count_after.result (c.count_after.ensures ∙ rw y)
+    c.requeued-moved.result (c.requeued-moved.ensures ∙ rw y) c.count_after.result (c.count_after.ensures ∙ rw y)
