@@ -90,25 +90,25 @@
  * by up to 24 from one run to another.
  *
  *     call                     stack    instructions
- *     mtr_start                 3368            3230
- *     mtr_open                 13416            5040
- *     mtr_close                13464            4999
- *     mtr_admit                13448            5038
- *     mtr_admit_best_effort    13336            4843
- *     mtr_remove               13480            5130
- *     mtr_wake                 13336            4857
- *     mtr_dispatch             13336            6022
- *     mtr_report               13432            5211
- *     mtr_change               13464            5041
- *     mtr_sound                 6808            4117
+ *     mtr_start                 3368            3234
+ *     mtr_open                 13496            5098
+ *     mtr_close                13528            5047
+ *     mtr_admit                13512            5101
+ *     mtr_admit_best_effort    13336            4892
+ *     mtr_remove               13416            5364
+ *     mtr_wake                 13336            4899
+ *     mtr_dispatch             13352            6197
+ *     mtr_report               13480            5504
+ *     mtr_change               13544            5102
+ *     mtr_sound                 6808            4158
  *     mtr_priority                16               8
- *     mtr_subtree               8152            6764
- *     mtr_priority_under         564            1771
- *     mtr_lag                  13320            4833
- *     mtr_share                13312            4834
- *     mtr_roster               13624           40533
- *     mtr_write_block            856            3347
- *     mtr_read_block            1204            3560
+ *     mtr_subtree               8152            6798
+ *     mtr_priority_under         548            1498
+ *     mtr_lag                  13320            4871
+ *     mtr_share                13312            4872
+ *     mtr_roster               15320           38177
+ *     mtr_write_block            856            3785
+ *     mtr_read_block            1252            4124
  */
 #ifndef MTR_H
 #define MTR_H

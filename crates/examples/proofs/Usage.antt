@@ -22,8 +22,8 @@ use Rattle.examples.specs.Usage.{began, again, used, asked, usage_table}
 
 unfoldable parts : Unit {0}
 unfolding same sums is_sealed numbered used_by has_form block_of body_of parts_of read_of is_block records_in all_form start_refusal
-unfolding start_reply
 
+unfolding start_reply
     request_of
 parts = tt
 

@@ -196,8 +196,7 @@ pub unspelt : (all count : ℕ) (v : Option (List ℕ)) (r : Option Questions) �
     → v ≡ None → r ≡ None → Parsed r
 unspelt all count v r e w n f =
     counted all count w.texts e w.size (ap all_asked f ∙ ap (λ (o : Option (List ℕ)). asked_by (front_of (3 * count) o)) (sym n)
-        ∙ ap asked_by w.values)
-
+    ∙ ap asked_by w.values)
     (λ q h. absurd (none_some q (sym f ∙ h)))
 
 pub spelt : (all count : ℕ) (v : Option (List ℕ)) (values : List ℕ) (q : Questions) → question_count all ≡ Some count

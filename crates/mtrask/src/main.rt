@@ -149,7 +149,13 @@ fn tell<R: Print + Eprint>(rt: &R, file: &mut File, questions: &Questions) -> Wr
     let mut out = [0u8; ROOM];
     let outcome = look(file, questions, &mut out);
     if let Some(error) = outcome.extent.error() {
-        return program::break_off(rt, outcome.extent, error, b"mtrask: summary", b"mtrask: standard output");
+        return program::break_off(
+            rt,
+            outcome.extent,
+            error,
+            b"mtrask: summary",
+            b"mtrask: standard output",
+        );
     }
     program::write(rt, &out[..outcome.used], b"mtrask: standard output")
 }

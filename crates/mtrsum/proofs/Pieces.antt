@@ -112,25 +112,24 @@ sent-all size u w = record {
 -- why the second reading ends before its end
 module _ (size sent left : ℕ) (u : Usage) (w : Sent-sofar sent u) (e : sent + left ≡ size) (area : List ℕ) (n : length area
     ≡ min 16384 left)
+  where
+    pub sent-changed : (f : Filled) → Other area u f → Summed size (record { sent = sent; usage = u; end = Err (Changed f) })
+    sent-changed f g = record {
+      bytes = w.bytes;
+      sent = w.size;
+      most = omega (arith, e);
+      none = w.none;
+      after = w.after;
+      ended = changed area f (omega (arith, n, e)) g refl;
+    }
 
-    where
-  pub sent-changed : (f : Filled) → Other area u f → Summed size (record { sent = sent; usage = u; end = Err (Changed f) })
-  sent-changed f g = record {
-    bytes = w.bytes;
-    sent = w.size;
-    most = omega (arith, e);
-    none = w.none;
-    after = w.after;
-    ended = changed area f (omega (arith, n, e)) g refl;
-  }
-
-  pub sent-unwritten : (out : List ℕ) (p : Piece) → Whole area u out p → p.written.done ≡ false
-      → Summed size (record { sent = sent; usage = u; end = Err (Unwritten p.written) })
-  sent-unwritten out p g f = record {
-    bytes = w.bytes;
-    sent = w.size;
-    most = omega (arith, e);
-    none = w.none;
-    after = w.after;
-    ended = unwritten area out p (omega (arith, n, e)) g f refl;
-  }
+    pub sent-unwritten : (out : List ℕ) (p : Piece) → Whole area u out p → p.written.done ≡ false
+        → Summed size (record { sent = sent; usage = u; end = Err (Unwritten p.written) })
+    sent-unwritten out p g f = record {
+      bytes = w.bytes;
+      sent = w.size;
+      most = omega (arith, e);
+      none = w.none;
+      after = w.after;
+      ended = unwritten area out p (omega (arith, n, e)) g f refl;
+    }

@@ -123,7 +123,13 @@ fn say_other<R: Eprint>(rt: &R, filled: Filled) {
 }
 
 // Reads the next blocks, as many bytes as the area has, runs them and writes their summary, unless they are not what they were.
-fn sum_some<R: Print + Eprint>(rt: &R, file: &mut File, usage: Usage, input: &mut [u8], out: &mut [u8]) -> Result<Piece, Filled>
+fn sum_some<R: Print + Eprint>(
+    rt: &R,
+    file: &mut File,
+    usage: Usage,
+    input: &mut [u8],
+    out: &mut [u8],
+) -> Result<Piece, Filled>
     requires { (length input.old ≤ 16384) × (length out.old ≡ 32768) }
     ensures { Sent input.new usage out.new result }
 {
@@ -224,7 +230,13 @@ fn conclude<R: Print + Eprint>(rt: &R, file: &mut File, verdict: Verdict) -> Don
         return unsummed(tell(rt, first));
     }
     if let Some(error) = verdict.extent.error() {
-        let line = program::break_off(rt, verdict.extent, error, b"mtrsum: journal", b"mtrsum: standard output");
+        let line = program::break_off(
+            rt,
+            verdict.extent,
+            error,
+            b"mtrsum: journal",
+            b"mtrsum: standard output",
+        );
         return unsummed(line);
     }
     if let Err(error) = rewind(file) {

@@ -10,8 +10,7 @@ pub returns-in-Some : goal.returns-in-Some
 returns-in-Some c =
     let end = c.consume-extent in
     told-found c.args.asked end.result _ end.new.state.found end.new.state.text end.ensures.sofar end.ensures.pieces c.in-Some.used
-        c.in-Some.is
-
+    c.in-Some.is
 
 pub returns-in-Some-error : goal.returns-in-Some-error
 returns-in-Some-error c =

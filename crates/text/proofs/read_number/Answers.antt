@@ -19,17 +19,19 @@ returns-then-is_empty c =
 pub returns-then-not-is_ascii_digit : goal.returns-then-not-is_ascii_digit
 returns-then-not-is_ascii_digit c =
     no_digit c.args.text.now c.loop-b.n c.loop-b.b-index c.loop-b.invariant (omega arith) (sym c.is_ascii_digit.ensures.value
-        ∙ c.if-not-is_ascii_digit.true)
-
+    ∙ c.if-not-is_ascii_digit.true)
 
 pub overflow_mul-n : goal.overflow_mul-n
 overflow_mul-n c = omega (arith, room c.args.text.now c.loop-b.n c.loop-b.b-index c.loop-b.invariant (omega arith))
 
 pub overflow_add-n : goal.overflow_add-n
 overflow_add-n c =
-    omega (arith, room c.args.text.now c.loop-b.n c.loop-b.b-index c.loop-b.invariant
-        (omega arith), c.if-not-is_ascii_digit.ensures.cases.1)
-
+    omega (
+      arith,
+      room c.args.text.now c.loop-b.n c.loop-b.b-index c.loop-b.invariant
+          (omega arith),
+      c.if-not-is_ascii_digit.ensures.cases.1,
+    )
 
 pub loop-b-preserved : goal.loop-b-preserved
 loop-b-preserved c =

@@ -21,7 +21,6 @@ module _ (c : After-after) where
   left = after_report c.args.self.allotment (c.args.self.reservation * c.args.thousandth) (eqb
       (number_of_reason c.args.report.reason) 2) c.args.report.used
 
-
   made : c.after.result ≡ left
   made = search rules
 
