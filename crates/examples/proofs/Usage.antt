@@ -21,11 +21,12 @@ use Rattle.usage.specs.Usage.{charged_by, ticks_in, count_at, first_refusal, eve
 use Rattle.examples.specs.Usage.{began, again, used, asked, usage_table}
 
 unfoldable parts : Unit {0}
-unfolding same sums is_sealed numbered used_by has_form block_of body_of parts_of read_of is_block records_in all_form start_refusal
-
-unfolding start_reply
-    request_of
+unfolding same sums is_sealed numbered used_by has_form block_of body_of parts_of read_of is_block records_in all_form
 parts = tt
+
+unfoldable starts : Unit {0}
+unfolding start_refusal start_reply request_of
+starts = tt
 
 unfoldable replays : Unit {0}
 unfolding start_on served halted_by reply_to after after_all read_at is_read next_place onward block_left left_by blocks_in beginning
@@ -42,5 +43,5 @@ unfolding digits words_of countBody summary_block began again used asked
 written = tt
 
 pub usage-holds : agree usage_table ≡ true
-unfolding computes parts replays counted written agree usage_table
+unfolding computes parts starts replays counted written agree usage_table
 usage-holds = refl
