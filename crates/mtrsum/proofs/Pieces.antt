@@ -9,10 +9,13 @@ use lib.ListN.{length, length-append}
 use lib.Dec.{eqb}
 use borrow.Author.Tests.{eqb-true}
 use Rattle.base.proofs.Bools.{clash}
+use Rattle.sector.specs.declared.refusal.Refusal.{Refusal}
+use Rattle.sector.specs.declared.refusal.Refusal.TheVariants.{Length, Check, Form}
 use Rattle.sector.specs.Places.{blocks_in}
+use Rattle.block.specs.Block.{refusal_of}
 use Rattle.sector.proofs.Places.{whole-blocks}
 use Rattle.program.specs.declared.Filled.{Filled}
-use Rattle.std.specs.Prelude.{Ok, Err}
+use Rattle.std.specs.Prelude.{Result, Ok, Err, is_ok, is_err}
 use Rattle.events.specs.Replay.{left_by}
 use Rattle.events.specs.Events.{events_to, events}
 use Rattle.usage.specs.Usage.{first_refusal}
@@ -133,3 +136,17 @@ module _ (size sent left : ℕ) (u : Usage) (w : Sent-sofar sent u) (e : sent + 
       after = w.after;
       ended = unwritten area out p (omega (arith, n, e)) g f refl;
     }
+
+-- A refusal and its number.
+
+pub refused_err : (r : Result (Unit {0}) Refusal) → is_err r ≡ not (eqb (refusal_of r) 0)
+refused_err (Ok u) = refl
+refused_err (Err Length) = refl
+refused_err (Err Check) = refl
+refused_err (Err Form) = refl
+
+pub refused_ok : (r : Result (Unit {0}) Refusal) → is_ok r ≡ eqb (refusal_of r) 0
+refused_ok (Ok u) = refl
+refused_ok (Err Length) = refl
+refused_ok (Err Check) = refl
+refused_ok (Err Form) = refl

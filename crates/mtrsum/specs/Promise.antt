@@ -4,7 +4,10 @@
 -- refused or the file is bad, else the summary, up to a piece that is not what it was or a write that failed. Which bytes the journal has
 -- at each reading, and which stand in the output, no contract can say.
 use Rattle.std.specs.Prelude.{ℕ, ◌*◌, ◌-◌, min, ◌≤◌, ◌≡◌, List, [], ◌∷◌, Bool, true, false, not, cond, ◌&&◌, eqb, length, take}
+use Rattle.sector.specs.declared.refusal.Refusal.{Refusal}
 use Rattle.sector.specs.Places.{blocks_in}
+use Rattle.sector.specs.Refusals.{number_of}
+use Rattle.block.specs.Block.{refusal_of}
 use Rattle.text.specs.Decimal.{line_of}
 use Rattle.events.specs.Events.{events}
 use Rattle.usage.specs.declared.Usage.{Usage}
@@ -33,8 +36,8 @@ pub record Sofar (read refusal : ℕ) : Type 0 where
 
 -- the whole of it
 pub record Reviewed (r : Verdict) : Type 0 where
-  pub sofar : Sofar r.extent.read r.refusal
-  pub pieces : Pieces r.extent.read r.extent.last (not (eqb r.refusal 0))
+  pub sofar : Sofar r.extent.read (refusal_of r.refused)
+  pub pieces : Pieces r.extent.read r.extent.last (not (eqb (refusal_of r.refused) 0))
 
 -- A piece of the second reading, all of whose bytes came, with the usage before it and the area after it: no block of it is refused, and
 -- its part of the summary stands at the front of the area and is handed to the write
@@ -82,10 +85,10 @@ pub record Lined (refusal : ℕ) (text : List ℕ) (used : ℕ) : Type 0 where
 -- after the first reading: the refusal's line; where a read failed, the two bytes of the answer 4 if nothing of the file was read, and else
 -- none; where the file's start can't be gone back to, nothing; and else the summary
 pub data Concluded (v : Verdict) (r : Done) : Type 0 where
-  refused : (v.refusal ≡ 0 → ⊥) → r.line.handed ≡ length (line_of (v.refusal ∷ [])) → r.sum ≡ None → Concluded v r
-  failed : v.refusal ≡ 0 → has_failed v.extent.last ≡ true → r.line.handed ≡ cond (is_unread v.extent) 2 0 → r.sum ≡ None → Concluded v r
-  stuck : v.refusal ≡ 0 → has_failed v.extent.last ≡ false → r.line.handed ≡ 0 → r.sum ≡ None → Concluded v r
-  summed : (s : Sum) → v.refusal ≡ 0 → has_failed v.extent.last ≡ false → r.line.handed ≡ 0 → r.sum ≡ Some s → Summed v.extent.read s
+  refused : (e : Refusal) → v.refused ≡ Err e → r.line.handed ≡ length (line_of (number_of e ∷ [])) → r.sum ≡ None → Concluded v r
+  failed : v.refused ≡ Ok tt → has_failed v.extent.last ≡ true → r.line.handed ≡ cond (is_unread v.extent) 2 0 → r.sum ≡ None → Concluded v r
+  stuck : v.refused ≡ Ok tt → has_failed v.extent.last ≡ false → r.line.handed ≡ 0 → r.sum ≡ None → Concluded v r
+  summed : (s : Sum) → v.refused ≡ Ok tt → has_failed v.extent.last ≡ false → r.line.handed ≡ 0 → r.sum ≡ Some s → Summed v.extent.read s
       → Concluded v r
 
 -- by whether the file's start can be gone to: the two bytes of the answer 4 where it can't

@@ -19,14 +19,14 @@ use usage::Usage;
 // The summary blocks of a piece.
 const OUTPUT: usize = 32 * usage::PAIR;
 
-// The first reading, up to a refused block: what becomes of it is the first refusal among the blocks, or 0.
+// The first reading, up to a refused block: what becomes of it is the first refusal among the blocks.
 #[derive(Clone, Copy)]
 struct Review;
 
-// The first reading: the first refusal or 0, and how far the file was read.
+// The first reading: the first refusal, and how far the file was read.
 #[derive(Clone, Copy)]
 struct Verdict {
-    refusal: u32,
+    refused: Result<(), Refusal>,
     extent: Extent,
 }
 
@@ -60,33 +60,30 @@ struct Done {
     sum: Option<Sum>,
 }
 
-// The number of a refusal, or 0: what is printed, and what `Sofar` is about.
-fn number(refused: Result<(), Refusal>) -> u32
-    ensures { result ≡ refusal_of refused }
-{
-    match refused {
-        Ok(()) => 0,
-        Err(refusal) => refusal.into(),
-    }
-}
-
 impl Consumer for Review {
-    type State = u32;
+    type State = Result<(), Refusal>;
 
-    ghost Sofar = { λ _ refusal n. Sofar n refusal };
+    ghost Sofar = { λ _ refused n. Sofar n (refusal_of refused) };
 
     ghost wants = { λ _ _. 16384 };
 
-    ghost is_enough = { λ _ refusal. not (eqb refusal 0) };
+    ghost is_enough = { λ _ refused. not (eqb (refusal_of refused) 0) };
 
-    fn wanted(&self, _refusal: &u32) -> usize {
+    fn wanted(&self, _refused: &Result<(), Refusal>) -> usize {
         program::PIECE
     }
 
     // Judges the next blocks.
-    fn take(&self, refusal: &mut u32, read: u64, _piece: Filled, bytes: &[u8]) -> bool {
-        *refusal = number(usage::first_refusal(read / 512, bytes));
-        *refusal != 0
+    #[tactic(auto, using(crate::proofs::Pieces::refused_err))]
+    fn take(
+        &self,
+        refused: &mut Result<(), Refusal>,
+        read: u64,
+        _piece: Filled,
+        bytes: &[u8],
+    ) -> bool {
+        *refused = usage::first_refusal(read / 512, bytes);
+        refused.is_err()
     }
 }
 
@@ -94,16 +91,17 @@ impl Consumer for Review {
 fn judge(file: &mut File) -> Verdict
     ensures { Reviewed result }
 {
-    let mut refusal: u32 = 0;
-    let extent = program::consume(file, &Review, &mut refusal);
-    Verdict { refusal, extent }
+    let mut refused = Ok(());
+    let extent = program::consume(file, &Review, &mut refused);
+    Verdict { refused, extent }
 }
 
 // Whether a piece is whole: no block of it is refused, and all the bytes that are wanted were read.
-fn is_whole(refusal: u32, read: usize, want: usize) -> bool
-    ensures { result ≡ whole_of refusal read want }
+#[tactic(auto, using(crate::proofs::Pieces::refused_ok))]
+fn is_whole(refused: Result<(), Refusal>, read: usize, want: usize) -> bool
+    ensures { result ≡ whole_of (refusal_of refused) read want }
 {
-    (refusal == 0) & (read == want)
+    refused.is_ok() && read == want
 }
 
 // How many bytes of the file are wanted next, of so many that are left: a piece, or all.
@@ -136,7 +134,7 @@ fn sum_some<R: Print + Eprint>(
     let filled = program::fill(file, input);
     let got = filled.count();
     let ran = usage.run(&input[..got], out).unwrap();
-    if !is_whole(number(ran.refused), got, input.len()) {
+    if !is_whole(ran.refused, got, input.len()) {
         say_other(rt, filled);
         return Err(filled);
     }
@@ -225,9 +223,8 @@ fn unsummed(line: Written) -> Done
 fn conclude<R: Print + Eprint>(rt: &R, file: &mut File, verdict: Verdict) -> Done
     ensures { Concluded verdict result }
 {
-    let first = verdict.refusal;
-    if first != 0 {
-        return unsummed(tell(rt, first));
+    if let Err(refusal) = verdict.refused {
+        return unsummed(tell(rt, refusal.into()));
     }
     if let Some(error) = verdict.extent.error() {
         let line = program::break_off(

@@ -51,7 +51,7 @@ returns-then-not-is_whole g c =
     let long : length area ≤ 16384 = omega (arith, c.fill-filled.auto.input, c.requires.0) in
     let room = room_is bytes c.args.out.now got size (omega (arith, few, long)) c.requires.1 in
     let whole-run = sym c.unwrap-ran.ensures ∙ (c.run.ensures.value ∙ ran_is bytes c.args.out.now c.args.usage room) in
-    let is = told_is bytes c.args.usage c.unwrap-ran.result c.number.result whole-run c.number.ensures in
+    let is = told_is bytes c.args.usage c.unwrap-ran.result (refusal_of c.unwrap-ran.result.refused) whole-run refl in
     record {
       filled = c.fill-filled.ensures;
       other =
@@ -67,7 +67,7 @@ returns g c =
     let got = c.count-got.result in
     let out = c.run.new.out in
     let counts_long : length c.args.usage.counts ≡ 64 = search rules in
-    let z = whole_is c.number.result got (length area) (sym c.is_whole.ensures ∙ c.if-not-is_whole.false) in
+    let z = whole_is (refusal_of c.unwrap-ran.result.refused) got (length area) (sym c.is_whole.ensures ∙ c.if-not-is_whole.false) in
     let all : take got area ≡ area = take_all got area (omega (arith, z.1)) in
     let long : length area ≤ 16384 = omega (arith, c.fill-filled.auto.input, c.requires.0) in
     let room : 1024 * blocks_in area ≤ length c.args.out.now = room_is area c.args.out.now (length area) refl long c.requires.1 in
@@ -77,7 +77,7 @@ returns g c =
     sym c.unwrap-ran.ensures
     ∙ (c.run.ensures.value ∙ ap (λ (l : List ℕ). run_of l c.args.out.now c.args.usage) all
     ∙ ran_is area c.args.out.now c.args.usage room) in
-    let is = told_is area c.args.usage c.unwrap-ran.result c.number.result whole-run c.number.ensures in
+    let is = told_is area c.args.usage c.unwrap-ran.result (refusal_of c.unwrap-ran.result.refused) whole-run refl in
     let used : 1024 * ((got + 511) / 512) ≡ 1024 * blocks_in area = used_is area got (sym z.1) in
     let handed : c.write.result.handed ≡ 1024 * blocks_in area =
     c.write.ensures ∙ length-take-le (1024 * ((got + 511) / 512)) out (omega (arith, used, room, c.run.auto.out)) ∙ used in

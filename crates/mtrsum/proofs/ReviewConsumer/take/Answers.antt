@@ -8,6 +8,6 @@ use Rattle.mtrsum.proofs.ReviewConsumer.take.Goals as goal
 pub returns-clause-sofar : goal.returns-clause-sofar
 returns-clause-sofar c =
     let bytes = c.args.bytes.now in
-    sofar_more c.args.read c.args.refusal.now bytes _ c.requires.sofar c.requires.wanting c.requires.whole
+    sofar_more c.args.read (refusal_of c.args.refused.now) bytes _ c.requires.sofar c.requires.wanting c.requires.whole
     (omega (arith, c.requires.small))
-    (c.number.ensures ∙ ap refusal_of c.first_refusal.ensures ∙ first_number (blocks_in bytes) bytes (c.args.read / 512))
+    (ap refusal_of c.first_refusal.ensures ∙ first_number (blocks_in bytes) bytes (c.args.read / 512))
