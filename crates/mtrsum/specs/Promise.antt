@@ -86,7 +86,8 @@ pub record Lined (refusal : ℕ) (text : List ℕ) (used : ℕ) : Type 0 where
 -- none; where the file's start can't be gone back to, nothing; and else the summary
 pub data Concluded (v : Verdict) (r : Done) : Type 0 where
   refused : (e : Refusal) → v.refused ≡ Err e → r.line.handed ≡ length (line_of (number_of e ∷ [])) → r.sum ≡ None → Concluded v r
-  failed : v.refused ≡ Ok tt → has_failed v.extent.last ≡ true → r.line.handed ≡ cond (is_unread v.extent) 2 0 → r.sum ≡ None → Concluded v r
+  failed : v.refused ≡ Ok tt → has_failed v.extent.last ≡ true → r.line.handed ≡ cond (is_unread v.extent) 2 0
+      → r.sum ≡ None → Concluded v r
   stuck : v.refused ≡ Ok tt → has_failed v.extent.last ≡ false → r.line.handed ≡ 0 → r.sum ≡ None → Concluded v r
   summed : (s : Sum) → v.refused ≡ Ok tt → has_failed v.extent.last ≡ false → r.line.handed ≡ 0 → r.sum ≡ Some s → Summed v.extent.read s
       → Concluded v r
