@@ -51,8 +51,8 @@ needs=$(nm -u "$archive") || fail "nm can't read $archive"
 needs=$(echo "$needs" | awk '$1 == "U" { printf "%s%s", gap, $2; gap = " " }')
 for name in $needs; do
     case $name in
-    memcmp | memcpy | memmove | memset) ;;
-    *) fail "$archive needs $name; of libc it may need the mem functions alone" ;;
+    memcpy | memset) ;;
+    *) fail "$archive needs $name; of libc it may need memcpy and memset alone" ;;
     esac
 done
 version=$(sed -n 's/^version = "\([0-9][0-9.]*\)"$/\1/p' rust/mtr/Cargo.toml) || fail "can't read rust/mtr/Cargo.toml"

@@ -92,13 +92,13 @@
  *     call                     stack    instructions
  *     mtr_start                 3368            3234
  *     mtr_open                 13496            5098
- *     mtr_close                13528            5047
+ *     mtr_close                13528            5035
  *     mtr_admit                13512            5101
  *     mtr_admit_best_effort    13336            4892
- *     mtr_remove               13416            5364
- *     mtr_wake                 13336            4899
- *     mtr_dispatch             13352            6197
- *     mtr_report               13480            5504
+ *     mtr_remove               13384            5224
+ *     mtr_wake                 13336            4911
+ *     mtr_dispatch             13352            6185
+ *     mtr_report               13448            5332
  *     mtr_change               13544            5102
  *     mtr_sound                 6808            4158
  *     mtr_priority                16               8
@@ -106,9 +106,9 @@
  *     mtr_priority_under         548            1498
  *     mtr_lag                  13320            4871
  *     mtr_share                13312            4872
- *     mtr_roster               15320           38177
+ *     mtr_roster               15320           38158
  *     mtr_write_block            856            3785
- *     mtr_read_block            1252            4124
+ *     mtr_read_block            1236            4203
  */
 #ifndef MTR_H
 #define MTR_H

@@ -34,7 +34,7 @@ pub passed_none : (qs : List Question) (p : Pass) → p ≡ unread → Passed qs
 passed_none qs p e = record { bytes = []; size = refl; passed = e ∙ begun qs }
 
 -- one piece more
-pub passed_more : (qs : List Question) (read : ℕ) (p r : Pass) (b : List ℕ) → Passed qs read p → read % 16384 ≡ 0
+pub passed_more : (qs : List Question) (read : ℕ) (p r : Pass) (b : List ℕ) → Passed qs read p → read % 512 ≡ 0
     → r ≡ passed_to (blocks_in b) b qs p → Passed qs (read + length b) r
 passed_more qs read p r b w whole g =
     let a = w.bytes in

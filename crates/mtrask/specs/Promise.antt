@@ -80,6 +80,10 @@ numbers_of (Err why) = question.number_of why ∷ []
 unfoldable pub answer_text : List Answer → List ℕ
 answer_text answers = lines_of (map numbers_of answers)
 
+-- a piece: its bytes, by the pass before them
+abbrev pub Judged : List ℕ → List Question → Pass → Pass → Type 0
+Judged bytes qs p r = r ≡ passed_to (blocks_in bytes) bytes qs p
+
 -- after some pieces: the pass over some bytes, as many as were judged
 pub record Passed (qs : List Question) (read : ℕ) (pass : Pass) : Type 0 where
   pub bytes : List ℕ

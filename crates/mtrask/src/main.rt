@@ -6,7 +6,7 @@ ghost use Rattle.std.specs.Prelude.{◌≡◌, [], ◌∷◌, ◌+◌, ◌*◌, 
 ghost use Rattle.text.specs.Decimal.{lines_of};
 ghost use Rattle.text.specs.Inner.{Wrote};
 ghost use Rattle.mtrask.specs.Promise.{question_count, questions_of, Said, Parsed, numbers_of, answer_text, asked_in};
-ghost use Rattle.mtrask.specs.Promise.{Passed, Looked, Handed, Answered, Served, Ran};
+ghost use Rattle.mtrask.specs.Promise.{Judged, Passed, Looked, Handed, Answered, Served, Ran};
 
 use program::{Consumer, Extent, Filled, Written};
 use questions::Questions;
@@ -91,6 +91,8 @@ impl Consumer for Questions {
     type State = Pass;
 
     ghost Sofar = { λ q pass n. Passed (asked_in q) n pass };
+
+    ghost Taken = { λ q p _ bytes r. Judged bytes (asked_in q) p r };
 
     ghost wants = { λ _ _. 16384 };
 

@@ -14,7 +14,7 @@ use Rattle.sector.specs.declared.refusal.Refusal.TheVariants.{Length, Check, For
 use Rattle.sector.specs.Places.{blocks_in}
 use Rattle.block.specs.Block.{refusal_of}
 use Rattle.sector.proofs.Places.{whole-blocks}
-use Rattle.program.specs.declared.Filled.{Filled}
+use Rattle.program.specs.declared.Written.{Written}
 use Rattle.std.specs.Prelude.{Result, Ok, Err, is_ok, is_err}
 use Rattle.events.specs.Replay.{left_by}
 use Rattle.events.specs.Events.{events_to, events}
@@ -24,8 +24,10 @@ use Rattle.usage.specs.Writer.{charged_all, unused, used_to, first_in}
 use Rattle.usage.specs.Inner.{earlier}
 use Rattle.usage.proofs.Pieces.{piece_first, place-before, piece_used}
 use Rattle.mtrsum.specs.declared.Piece.{Piece}
+use Rattle.mtrsum.specs.declared.Other.{Other}
+use Rattle.mtrsum.specs.declared.Cut.{Cut}
 use Rattle.mtrsum.specs.declared.Cut.TheVariants.{Changed, Unwritten}
-use Rattle.mtrsum.specs.Promise.{whole_of, Sofar, Whole, Other, Summed, all, changed, unwritten}
+use Rattle.mtrsum.specs.Promise.{whole_of, Sofar, Whole, Differs, Partly, Sent, Summed, all, changed, unwritten}
 
 -- The first reading.
 
@@ -45,7 +47,7 @@ unfolding earlier
 earlier_zero x y e = ap (λ (n : ℕ). cond (eqb n 0) y n) e
 
 -- one piece more
-pub sofar_more : (read refusal : ℕ) (b : List ℕ) (x : ℕ) → Sofar read refusal → not (eqb refusal 0) ≡ false → read % 16384 ≡ 0
+pub sofar_more : (read refusal : ℕ) (b : List ℕ) (x : ℕ) → Sofar read refusal → not (eqb refusal 0) ≡ false → read % 512 ≡ 0
     → read ≤ 9223372036854775808 → x ≡ first_in (blocks_in b) b (read / 512) → Sofar (read + length b) x
 sofar_more read refusal b x w z whole small g =
     let a = w.bytes in
@@ -116,26 +118,32 @@ sent-all size u w = record {
 module _ (size sent left : ℕ) (u : Usage) (w : Sent-sofar sent u) (e : sent + left ≡ size) (area : List ℕ) (n : length area
     ≡ min 16384 left)
   where
-    pub sent-changed : (f : Filled) → Other area u f → Summed size (record { sent = sent; usage = u; end = Err (Changed f) })
-    sent-changed f g = record {
+    pub sent-changed : (o : Other) → Differs area u o → Summed size (record { sent = sent; usage = u; end = Err (Changed o) })
+    sent-changed o g = record {
       bytes = w.bytes;
       sent = w.size;
       most = omega (arith, e);
       none = w.none;
       after = w.after;
-      ended = changed area f (omega (arith, n, e)) g refl;
+      ended = changed area o (omega (arith, n, e)) g refl;
     }
 
-    pub sent-unwritten : (out : List ℕ) (p : Piece) → Whole area u out p → p.written.done ≡ false
-        → Summed size (record { sent = sent; usage = u; end = Err (Unwritten p.written) })
-    sent-unwritten out p g f = record {
+    pub sent-unwritten : (out : List ℕ) (w : Written) → Partly area u out w
+        → Summed size (record { sent = sent; usage = u; end = Err (Unwritten w) })
+    sent-unwritten out x g = record {
       bytes = w.bytes;
       sent = w.size;
       most = omega (arith, e);
       none = w.none;
       after = w.after;
-      ended = unwritten area out p (omega (arith, n, e)) g f refl;
+      ended =
+          unwritten area out g.piece (omega (arith, n, e)) g.whole (ap (λ (y : Written). y.done) (sym g.written) ∙ g.undone)
+          (ap (λ (y : Written). Err (Unwritten y)) g.written);
     }
+
+    pub sent-cut : (out : List ℕ) (x : Cut) → Sent area u out (Err x) → Summed size (record { sent = sent; usage = u; end = Err x })
+    sent-cut out (Changed o) g = sent-changed o g
+    sent-cut out (Unwritten x) g = sent-unwritten out x g
 
 -- A refusal and its number.
 

@@ -1,4 +1,4 @@
--- What `mtrsum` promises (RULE 8.15). Of the first reading: the refusal is the first of some bytes of the number judged, and the pieces
+-- What `mtrsum` promises (RULE 8.15). Of each piece of the first reading: the first refusal among its blocks. Of the whole of it: the refusal is the first of some bytes of the number judged, and the pieces
 -- went on until a block was refused or the last read gave no bytes. Of each piece of the second: where it is what it was, its part of
 -- the summary stands at the front of the area, and as many bytes as that has are handed to the write. Of the whole: a line where a block is
 -- refused or the file is bad, else the summary, up to a piece that is not what it was or a write that failed. Which bytes the journal has
@@ -17,7 +17,9 @@ use Rattle.program.specs.Program.{opened_refusal}
 use Rattle.program.specs.Pieces.{Fetched, has_failed, is_unread, Pieces}
 use Rattle.std.specs.declared.fs.File.{File}
 use Rattle.std.specs.Prelude.{Option, Some, None, Result, Ok, Err}
-use Rattle.program.specs.declared.Filled.{Filled}
+use Rattle.program.specs.declared.Written.{Written}
+use Rattle.mtrsum.specs.declared.Other.{Other}
+use Rattle.mtrsum.specs.declared.Cut.{Cut}
 use Rattle.mtrsum.specs.declared.Cut.TheVariants.{Changed, Unwritten}
 use Rattle.mtrsum.specs.declared.Verdict.{Verdict}
 use Rattle.mtrsum.specs.declared.Piece.{Piece}
@@ -28,7 +30,11 @@ use Rattle.mtrsum.specs.declared.Done.{Done}
 abbrev pub whole_of : ℕ → ℕ → ℕ → Bool
 whole_of refusal read want = eqb refusal 0 && eqb read want
 
--- after some pieces of the first reading: some bytes, as many as were judged, and the first refusal among their blocks
+-- a piece of the first reading, the first of whose blocks stands at this place: the first refusal among its blocks
+abbrev pub Judged : List ℕ → ℕ → ℕ → Type 0
+Judged bytes place refusal = refusal ≡ first_in (blocks_in bytes) bytes place
+
+-- after some pieces of it: some bytes, as many as were judged, and the first refusal among their blocks
 pub record Sofar (read refusal : ℕ) : Type 0 where
   pub bytes : List ℕ
   pub size : length bytes ≡ read
@@ -49,19 +55,31 @@ pub record Whole (bytes : List ℕ) (u : Usage) (out : List ℕ) (p : Piece) : T
   pub handed : p.written.handed ≡ 1024 * blocks_in bytes
   pub text : take p.written.handed out ≡ pairs_to (blocks_in bytes) bytes u
 
--- one that is not what it was, by its area: not all the bytes came that are wanted, or a block of those that came is refused
-pub record Other (area : List ℕ) (u : Usage) (f : Filled) : Type 0 where
-  pub filled : Fetched (length area) f
-  pub other : whole_of (first_in (blocks_in (take f.got area)) (take f.got area) u.replay.place) f.got (length area) ≡ false
+-- one that is not what it was, by its area: not all the bytes came that are wanted, or a block of those that came is refused; and nothing
+-- is handed to the write
+pub record Differs (area : List ℕ) (u : Usage) (o : Other) : Type 0 where
+  pub filled : Fetched (length area) o.filled
+  pub other : whole_of (first_in (blocks_in (take o.filled.got area)) (take o.filled.got area) u.replay.place) o.filled.got (length area)
+      ≡ false
+  pub unsent : o.written.handed ≡ 0
 
-abbrev pub Sent : List ℕ → Usage → List ℕ → Result Piece Filled → Type 0
-Sent area u out (Ok p) = Whole area u out p
-Sent area u out (Err f) = Other area u f
+-- one of which not all of the summary was written
+pub record Partly (area : List ℕ) (u : Usage) (out : List ℕ) (w : Written) : Type 0 where
+  pub piece : Piece
+  pub whole : Whole area u out piece
+  pub written : w ≡ piece.written
+  pub undone : w.done ≡ false
+
+-- The next piece is read only where all of its summary was written
+abbrev pub Sent : List ℕ → Usage → List ℕ → Result Piece Cut → Type 0
+Sent area u out (Ok p) = Whole area u out p × (p.written.done ≡ true)
+Sent area u out (Err (Changed o)) = Differs area u o
+Sent area u out (Err (Unwritten w)) = Partly area u out w
 
 -- why it ended: all is summed, or the piece that came next was not the same or was not written whole
 pub data Ended (size : ℕ) (r : Sum) : Type 0 where
   all : r.end ≡ Ok tt → r.sent ≡ size → Ended size r
-  changed : (area : List ℕ) (f : Filled) → length area ≡ min 16384 (size - r.sent) → Other area r.usage f → r.end ≡ Err (Changed f)
+  changed : (area : List ℕ) (o : Other) → length area ≡ min 16384 (size - r.sent) → Differs area r.usage o → r.end ≡ Err (Changed o)
       → Ended size r
   unwritten : (bytes out : List ℕ) (p : Piece) → length bytes ≡ min 16384 (size - r.sent) → Whole bytes r.usage out p
       → p.written.done ≡ false → r.end ≡ Err (Unwritten p.written) → Ended size r

@@ -2,10 +2,10 @@
 // read twice: before anything is written it is known that no block is refused, and no more than a piece of it is held.
 #![tactic(auto)]
 
-ghost use Rattle.std.specs.Prelude.{◌≡◌, ◌≤◌, [], ◌∷◌, not, eqb, min, length};
+ghost use Rattle.std.specs.Prelude.{◌≡◌, ◌≤◌, ◌/◌, [], ◌∷◌, not, eqb, min, length};
 ghost use Rattle.block.specs.Block.{refusal_of};
 ghost use Rattle.text.specs.Decimal.{line_of};
-ghost use Rattle.mtrsum.specs.Promise.{whole_of, Sofar, Reviewed, Sent, Summed, Lined, Concluded, Summarized, Served};
+ghost use Rattle.mtrsum.specs.Promise.{whole_of, Judged, Sofar, Reviewed, Sent, Summed, Lined, Concluded, Summarized, Served};
 
 use program::{Consumer, Extent, Filled, Written};
 use sector::place::BLOCK;
@@ -38,10 +38,17 @@ struct Piece {
     filled: Filled,
 }
 
-// Why the second reading ended before its end: a piece, as it was read, is not what it was, or not all of its summary was written.
+// A piece that is not what it was: what was read, and what was written of it, which is nothing.
+#[derive(Clone, Copy)]
+struct Other {
+    filled: Filled,
+    written: Written,
+}
+
+// Why the second reading ended before its end: a piece is not what it was, or not all of its summary was written.
 #[derive(Clone, Copy)]
 enum Cut {
-    Changed(Filled),
+    Changed(Other),
     Unwritten(Written),
 }
 
@@ -64,6 +71,8 @@ impl Consumer for Review {
     type State = Result<(), Refusal>;
 
     ghost Sofar = { λ _ refused n. Sofar n (refusal_of refused) };
+
+    ghost Taken = { λ _ _ n bytes refused. Judged bytes (n / 512) (refusal_of refused) };
 
     ghost wants = { λ _ _. 16384 };
 
@@ -121,13 +130,14 @@ fn say_other<R: Eprint>(rt: &R, filled: Filled) {
 }
 
 // Reads the next blocks, as many bytes as the area has, runs them and writes their summary, unless they are not what they were.
+// A piece whose summary is not written whole is the last.
 fn sum_some<R: Print + Eprint>(
     rt: &R,
     file: &mut File,
     usage: Usage,
     input: &mut [u8],
     out: &mut [u8],
-) -> Result<Piece, Filled>
+) -> Result<Piece, Cut>
     requires { (length input.old ≤ 16384) × (length out.old ≡ 32768) }
     ensures { Sent input.new usage out.new result }
 {
@@ -136,14 +146,21 @@ fn sum_some<R: Print + Eprint>(
     let ran = usage.run(&input[..got], out).unwrap();
     if !is_whole(ran.refused, got, input.len()) {
         say_other(rt, filled);
-        return Err(filled);
+        return Err(Cut::Changed(Other {
+            filled,
+            written: Written::default(),
+        }));
     }
     let summary = &out[..usage::PAIR * ((got + 511) / BLOCK)];
-    Ok(Piece {
+    let piece = Piece {
         usage: ran.usage,
         written: program::write(rt, summary, b"mtrsum: standard output"),
         filled,
-    })
+    };
+    if !piece.written.is_done() {
+        return Err(Cut::Unwritten(piece.written));
+    }
+    Ok(piece)
 }
 
 // Writes the summary of the first `size` bytes of the file, piece by piece, up to a write that fails or a piece that is not what it was.
@@ -161,21 +178,14 @@ fn write_summary<R: Print + Eprint>(rt: &R, file: &mut File, size: u64) -> Sum
         let sent = size - left;
         let piece = match sum_some(rt, file, usage, &mut input[..want], &mut out) {
             Ok(piece) => piece,
-            Err(filled) => {
+            Err(cut) => {
                 return Sum {
                     sent,
                     usage,
-                    end: Err(Cut::Changed(filled)),
+                    end: Err(cut),
                 };
             }
         };
-        if !piece.written.is_done() {
-            return Sum {
-                sent,
-                usage,
-                end: Err(Cut::Unwritten(piece.written)),
-            };
-        }
         usage = piece.usage;
         left -= want as u64;
     }

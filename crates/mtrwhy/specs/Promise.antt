@@ -1,4 +1,4 @@
--- What `mtrwhy` promises (RULE 8.10, 8.12). After each piece: what is held is the search over the bytes that were judged, by the definition
+-- What `mtrwhy` promises (RULE 8.10, 8.12). Of each piece: the bytes that are judged are searched. After each piece: what is held is the search over the bytes that were judged, by the definition
 -- of a search, or the answer for them. Of the whole run: the answer is `why` of some bytes of the number judged, and reading went on until
 -- the record's place was among them or the last read gave no bytes; as many bytes as the answer's text has are handed to the write. Which
 -- bytes the journal has, which stand in the output, and what the arguments are, no contract can say.
@@ -10,7 +10,7 @@ use Rattle.text.specs.Decimal.{lines_of, number_refusal}
 use Rattle.sector.specs.Places.{blocks_in}
 use Rattle.events.specs.Why.{why}
 use Rattle.why.specs.declared.Search.{Search}
-use Rattle.why.specs.Search.{searching, searched_by, is_in}
+use Rattle.why.specs.Search.{searching, searched_by, is_in, looked, look_of, area_after}
 use Rattle.program.specs.declared.Filled.{Filled}
 use Rattle.program.specs.Program.{opened_refusal}
 use Rattle.program.specs.Pieces.{has_failed, is_unread, Pieces}
@@ -28,6 +28,11 @@ is_found None = false
 abbrev pub used_in : Option ℕ → ℕ
 used_in (Some n) = n
 used_in None = 0
+
+-- a piece: its bytes, by the search before them, and the area before and after it
+pub record Judged (bytes : List ℕ) (asked : ℕ) (q : Search) (o out : List ℕ) (after : Search) (used : Option ℕ) : Type 0 where
+  pub search : look_of bytes asked o q ≡ Some (looked used after)
+  pub area : out ≡ area_after bytes asked o q
 
 -- after some pieces: some bytes, as many as were judged and none past the record's block. None of their blocks is the record's, and the
 -- search is that over them; or one is, and the answer for them is at the front of the text

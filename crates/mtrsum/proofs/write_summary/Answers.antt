@@ -1,7 +1,7 @@
 -- One piece more, or the last.
-use Rattle.std.proofs.Common.{◌≡◌, ◌-◌, ◌≤◌, length, min, sym, ◌∙◌, arith}
+use Rattle.std.proofs.Common.{◌≡◌, ◌-◌, ◌≤◌, length, min, ◌∙◌, arith}
 use lib.Seq.{length-take-le}
-use Rattle.mtrsum.proofs.Pieces.{sent_none, sent_more, sent-changed, sent-unwritten}
+use Rattle.mtrsum.proofs.Pieces.{sent_none, sent_more, sent-cut}
 use Rattle.mtrsum.proofs.write_summary.Goals as goal
 
 pub loop-left-init : goal.loop-left-init
@@ -13,16 +13,7 @@ returns-in-Err g c =
     let want = c.wanted-want.result in
     let size : length c.sum_some.new.input ≡ min 16384 at.left =
     c.sum_some.auto.input ∙ length-take-le want at.input (omega (arith, c.wanted-want.ensures)) ∙ c.wanted-want.ensures in
-    sent-changed c.args.size _ at.left at.usage at.invariant.0 (omega (arith, at.invariant.1)) _ size c.in-Err.filled c.in-Err.ensures
-
-pub returns-then-not-is_done : goal.returns-then-not-is_done
-returns-then-not-is_done g c =
-    let at = c.loop-left in
-    let want = c.wanted-want.result in
-    let size : length c.sum_some.new.input ≡ min 16384 at.left =
-    c.sum_some.auto.input ∙ length-take-le want at.input (omega (arith, c.wanted-want.ensures)) ∙ c.wanted-want.ensures in
-    sent-unwritten c.args.size _ at.left at.usage at.invariant.0 (omega (arith, at.invariant.1)) _ size _ c.in-Ok.piece c.in-Ok.ensures
-    (sym c.is_done.ensures ∙ c.if-not-is_done.true)
+    sent-cut c.args.size _ at.left at.usage at.invariant.0 (omega (arith, at.invariant.1)) _ size _ c.in-Err.cut c.in-Err.ensures
 
 pub loop-left-preserved : goal.loop-left-preserved
 loop-left-preserved g c =
@@ -33,7 +24,7 @@ loop-left-preserved g c =
     let size : length c.sum_some.new.input ≡ want =
     c.sum_some.auto.input ∙ length-take-le want at.input (omega (arith, c.wanted-want.ensures)) in (
       sent_more (c.args.size - at.left) _ at.usage _ _ c.in-Ok.piece at.invariant.0 whole (omega (arith, below))
-          (omega (arith, size, at.invariant.1, c.wanted-want.ensures)) c.in-Ok.ensures,
+          (omega (arith, size, at.invariant.1, c.wanted-want.ensures)) c.in-Ok.ensures.0,
       omega (arith, at.invariant.1),
       (λ h. omega (arith, h, whole, c.wanted-want.ensures, at.invariant.1)),
     )

@@ -5,7 +5,7 @@ use Rattle.order.proofs.rear.Goals as goal
 
 pub returns-in-Some : goal.returns-in-Some
 returns-in-Some c =
-    rw c.rotate_left.ensures.after
+    rw c.turn.ensures
     (requeue-found c.args.t c.args.list.now c.in-Some.at (sym c.position.ensures ∙ c.in-Some.is))
 
 pub returns-in_default : goal.returns-in_default

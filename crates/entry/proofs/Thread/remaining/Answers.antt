@@ -10,7 +10,6 @@ use mir.Facts.{to_z-of_z}
 use borrow.Author.Rules.{rules}
 use Rattle.quota.specs.Quota.{after_report}
 use Rattle.entry.specs.Effects.{allotment_after}
-use Rattle.entry.specs.Inner.{number_of_reason}
 use Rattle.entry.proofs.Word.{report_fits}
 use Rattle.entry.proofs.Thread.remaining.Goals as goal
 use Rattle.entry.proofs.Thread.remaining.Goals.{After-after}
@@ -19,13 +18,13 @@ module _ (c : After-after) where
   -- the allotment after a report
   abbrev left : ℤ
   left = after_report c.args.self.allotment (c.args.self.reservation * c.args.thousandth) (eqb
-      (number_of_reason c.args.report.reason) 2) c.args.report.used
+      c.args.report.reason 2) c.args.report.used
 
   made : c.after.result ≡ left
   made = search rules
 
   fits : SFits w32 left
-  fits = report_fits c.args.thousandth (number_of_reason c.args.report.reason) c.args.report.used c.args.self c.requires
+  fits = report_fits c.args.thousandth c.args.report.reason c.args.report.used c.args.self c.requires
 
   -- as it is handed over
   read : to_z w64 (of_z w64 c.after.result) ≡ left

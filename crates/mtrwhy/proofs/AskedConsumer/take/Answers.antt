@@ -1,5 +1,5 @@
 -- The bytes of the piece are searched, and the area has room.
-use Rattle.std.proofs.Common.{ℕ, ◌≤◌, length, sym, subst, ◌∙◌, rules}
+use Rattle.std.proofs.Common.{ℕ, ◌≤◌, length, sym, subst, ◌∙◌, arith, rules}
 use Rattle.std.specs.Prelude.{Option, Some, IsSome, IfSome}
 use Rattle.why.specs.declared.Looked.{Looked}
 use Rattle.mtrwhy.proofs.Pieces.{has_room_lem, sofar_more, full}
@@ -18,7 +18,7 @@ returns-clause-sofar c =
     subst (λ (r : Option Looked). IfSome r (λ (l : Looked). IfSome l.used (λ (u : ℕ). u ≤ length o))) c.unwrap-looked.ensures
     c.run.ensures.used_in_bounds in
     sofar_more c.args.self.now.record c.args._read c.args.seek.now.search _ o _ (search rules) (search rules) c.requires.sofar
-    c.requires.wanting c.requires.whole c.args.bytes.now _ x (sym c.unwrap-looked.ensures ∙ c.run.ensures.value) c.run.ensures.out_after
+    c.requires.wanting (omega (arith, c.requires.whole)) c.args.bytes.now _ x (sym c.unwrap-looked.ensures ∙ c.run.ensures.value) c.run.ensures.out_after
     bounds c.args._piece c.requires.fetched c.requires.judged
 
 pub returns-clause-full : goal.returns-clause-full
@@ -29,5 +29,5 @@ returns-clause-full c =
     subst (λ (r : Option Looked). IfSome r (λ (l : Looked). IfSome l.used (λ (u : ℕ). u ≤ length o))) c.unwrap-looked.ensures
     c.run.ensures.used_in_bounds in
     full c.args.self.now.record c.args._read c.args.seek.now.search _ o _ (search rules) (search rules) c.requires.sofar
-    c.requires.wanting c.requires.whole c.args.bytes.now _ x (sym c.unwrap-looked.ensures ∙ c.run.ensures.value) c.run.ensures.out_after
+    c.requires.wanting (omega (arith, c.requires.whole)) c.args.bytes.now _ x (sym c.unwrap-looked.ensures ∙ c.run.ensures.value) c.run.ensures.out_after
     bounds c.args._piece c.requires.fetched c.requires.judged

@@ -1,6 +1,6 @@
 -- `report_given` meets its contract: the number is the refusal's, and where it is 0 the state is the reported one.
 use Prim.Native.Nat.{ℕ, ◌%◌}
-use mathlib.Core.Path.{◌≡◌, sym, ap, subst, ◌∙◌}
+use mathlib.Core.Path.{◌≡◌, sym, subst, ◌∙◌}
 use mathlib.Core.Bool.{true, ◌&&◌}
 use Rattle.answers.proofs.Refusals.{tested}
 use Rattle.answers.specs.Numbers.{number_in}
@@ -9,8 +9,6 @@ use borrow.Author.Tests.{eqb-true}
 use Rattle.base.proofs.Bools.{and_l, and_r, is, holds}
 use Rattle.rule.specs.State.{State, thread_at}
 use Rattle.entry.specs.Entry.{has_reservation}
-use Rattle.entry.specs.Inner.{number_of_reason}
-use Rattle.entry.proofs.Reasons.{reason_small}
 use Rattle.rule.specs.Refusals.{report, refusal}
 use Rattle.scheduler.specs.View.{view}
 use Rattle.scheduler.proofs.threads.Report.{report_number, Ready, ready, report_done}
@@ -52,18 +50,13 @@ count_after-requires c = λ z.
     let l = c.leaves in
     let t = holds (b && l.result) z in
     let h = has_reservation (thread_at (S k) ((S k).running % 64)) in
-    let r = number_of_reason c.reason_read.result in
-    let left : T (h && eqb r 3) = subst T l.ensures (and_r b l.result t) in
-    ((known k (is b (and_l b l.result t))).list (is h (and_l h (eqb r 3) left))).some
+    let left : T (h && eqb c.args.reason 3) = subst T l.ensures (and_r b l.result t) in
+    ((known k (is b (and_l b l.result t))).list (is h (and_l h (eqb c.args.reason 3) left))).some
 
 pub returns : goal.returns
 returns c =
     let k = (goal.at.returns c).After-is_ok-charges in
     report_done (S k) c.args.reason c.args.used (K k) (number k) c.answered.result c.answered.ensures
-    (number_of_reason c.reason_read.result)
-    (λ z.
-    ap number_of_reason c.reason_read.ensures
-    ∙ reason_small c.args.reason (known k (ok k ∙ z)).known)
     c.reported-reported.result c.meter_after-meter.result (c.reported-reported.ensures ∙ rw (ok k))
     c.moves.result c.moves.ensures c.requeued-moved.result (c.requeued-moved.ensures ∙ rw (ok k))
     (c.meter_after-meter.ensures ∙ rw (ok k)) c.leaves.result c.leaves.ensures
