@@ -114,6 +114,11 @@ sent-all size u w = record {
   ended = all refl refl;
 }
 
+-- a piece of which not all was written
+pub partly_sent : (area : List ℕ) (u : Usage) (out : List ℕ) (p : Piece) → Whole area u out p → p.written.done ≡ false
+    → Partly area u out p.written
+partly_sent area u out p g f = record { piece = p; whole = g; written = refl; undone = f }
+
 -- why the second reading ends before its end
 module _ (size sent left : ℕ) (u : Usage) (w : Sent-sofar sent u) (e : sent + left ≡ size) (area : List ℕ) (n : length area
     ≡ min 16384 left)

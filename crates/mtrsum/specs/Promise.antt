@@ -1,8 +1,9 @@
--- What `mtrsum` promises (RULE 8.15). Of each piece of the first reading: the first refusal among its blocks. Of the whole of it: the refusal is the first of some bytes of the number judged, and the pieces
--- went on until a block was refused or the last read gave no bytes. Of each piece of the second: where it is what it was, its part of
--- the summary stands at the front of the area, and as many bytes as that has are handed to the write. Of the whole: a line where a block is
--- refused or the file is bad, else the summary, up to a piece that is not what it was or a write that failed. Which bytes the journal has
--- at each reading, and which stand in the output, no contract can say.
+-- What `mtrsum` promises (RULE 8.15). Of each piece of the first reading: the first refusal among its blocks. Of the whole of it: the
+-- refusal is the first of some bytes of the number judged, and the pieces went on until a block was refused or the last read gave no
+-- bytes. Of each piece of the second: where it is what it was, its part of the summary stands at the front of the area, and as many bytes
+-- as that has are handed to the write. Of the whole: a line where a block is refused or the file is bad, else the summary, up to a piece
+-- that is not what it was or a write that failed. Which bytes the journal has at each reading, and which stand in the output, no contract
+-- can say.
 use Rattle.std.specs.Prelude.{ℕ, ◌*◌, ◌-◌, min, ◌≤◌, ◌≡◌, List, [], ◌∷◌, Bool, true, false, not, cond, ◌&&◌, eqb, length, take}
 use Rattle.sector.specs.declared.refusal.Refusal.{Refusal}
 use Rattle.sector.specs.Places.{blocks_in}

@@ -1,7 +1,8 @@
--- What `mtrwhy` promises (RULE 8.10, 8.12). Of each piece: the bytes that are judged are searched. After each piece: what is held is the search over the bytes that were judged, by the definition
--- of a search, or the answer for them. Of the whole run: the answer is `why` of some bytes of the number judged, and reading went on until
--- the record's place was among them or the last read gave no bytes; as many bytes as the answer's text has are handed to the write. Which
--- bytes the journal has, which stand in the output, and what the arguments are, no contract can say.
+-- What `mtrwhy` promises (RULE 8.10, 8.12). Of each piece: the bytes that are judged are searched. After each piece: what is held is the
+-- search over the bytes that were judged, by the definition of a search, or the answer for them. Of the whole run: the answer is `why` of
+-- some bytes of the number judged, and reading went on until the record's place was among them or the last read gave no bytes; as many
+-- bytes as the answer's text has are handed to the write. Which bytes the journal has, which stand in the output, and what the arguments
+-- are, no contract can say.
 use Rattle.std.specs.Prelude.{ℕ, ◌+◌, ◌-◌, ◌*◌, ◌/◌, min, ◌≤◌, ◌≡◌, List, Bool, true, false, not, cond, ◌&&◌, length, take}
 use Rattle.std.specs.Prelude.{Option, Some, None, Result, Ok, Err}
 use Rattle.std.specs.declared.io.Error.{Error}

@@ -9,9 +9,9 @@ use Rattle.usage.specs.declared.Usage.{Usage}
 use Rattle.usage.specs.declared.Ran.{Ran}
 use Rattle.usage.specs.Writer.{used_to, first_in, first_refused, run, run_of, area_after}
 use Rattle.usage.proofs.Firsts.{first_number}
-use Rattle.program.specs.declared.Written.{Written}
+use Rattle.mtrsum.specs.declared.Piece.{Piece}
 use Rattle.mtrsum.specs.Promise.{whole_of, Whole}
-use Rattle.mtrsum.proofs.Pieces.{whole_is}
+use Rattle.mtrsum.proofs.Pieces.{whole_is, partly_sent}
 use Rattle.mtrsum.proofs.sum_some.Given.{Over}
 use Rattle.mtrsum.proofs.sum_some.Goals as goal
 use Rattle.mtrsum.proofs.sum_some.Goals.{After-is_done}
@@ -62,7 +62,7 @@ returns-then-not-is_whole g c =
           (sym c.count-got.ensures)
           ∙ ap (λ (n : ℕ). whole_of n got (length area)) (sym is.0)
           ∙ sym c.is_whole.ensures ∙ c.if-not-is_whole.true;
-      unsent = ap (λ (w : Written). w.handed) c.default.ensures;
+      unsent = search rules;
     }
 
 -- the summary of a piece that is what it was
@@ -79,7 +79,10 @@ module _ (g : Over) (c : After-is_done g) where
   z : (refusal_of c.unwrap-ran.result.refused ≡ 0) × (got ≡ length area)
   z = whole_is (refusal_of c.unwrap-ran.result.refused) got (length area) (sym c.is_whole.ensures ∙ c.if-not-is_whole.false)
 
-  whole : Whole area c.args.usage out (record { usage = c.unwrap-ran.result.usage; written = c.write.result; filled = c.fill-filled.result })
+  abbrev piece : Piece
+  piece = record { usage = c.unwrap-ran.result.usage; written = c.write.result; filled = c.fill-filled.result }
+
+  whole : Whole area c.args.usage out piece
   whole =
       let counts_long : length c.args.usage.counts ≡ 64 = search rules in
       let all : take got area ≡ area = take_all got area (omega (arith, z.1)) in
@@ -107,12 +110,9 @@ module _ (g : Over) (c : After-is_done g) where
       }
 
 pub returns-then-not-is_done : goal.returns-then-not-is_done
-returns-then-not-is_done g c = record {
-  piece = _;
-  whole = whole g (goal.at.returns-then-not-is_done g c).After-is_done;
-  written = refl;
-  undone = sym c.is_done.ensures ∙ c.if-not-is_done.true;
-}
+returns-then-not-is_done g c =
+    let k = (goal.at.returns-then-not-is_done g c).After-is_done in
+    partly_sent (area g k) c.args.usage (out g k) (piece g k) (whole g k) (sym c.is_done.ensures ∙ c.if-not-is_done.true)
 
 pub returns : goal.returns
 returns g c = (whole g (goal.at.returns g c).After-is_done, sym c.is_done.ensures ∙ c.if-not-is_done.false)

@@ -18,8 +18,8 @@ returns-clause-sofar c =
     subst (λ (r : Option Looked). IfSome r (λ (l : Looked). IfSome l.used (λ (u : ℕ). u ≤ length o))) c.unwrap-looked.ensures
     c.run.ensures.used_in_bounds in
     sofar_more c.args.self.now.record c.args._read c.args.seek.now.search _ o _ (search rules) (search rules) c.requires.sofar
-    c.requires.wanting (omega (arith, c.requires.whole)) c.args.bytes.now _ x (sym c.unwrap-looked.ensures ∙ c.run.ensures.value) c.run.ensures.out_after
-    bounds c.args._piece c.requires.fetched c.requires.judged
+    c.requires.wanting (omega (arith, c.requires.whole)) c.args.bytes.now _ x (sym c.unwrap-looked.ensures ∙ c.run.ensures.value)
+    c.run.ensures.out_after bounds c.args._piece c.requires.fetched c.requires.judged
 
 pub returns-clause-full : goal.returns-clause-full
 returns-clause-full c =
@@ -29,5 +29,5 @@ returns-clause-full c =
     subst (λ (r : Option Looked). IfSome r (λ (l : Looked). IfSome l.used (λ (u : ℕ). u ≤ length o))) c.unwrap-looked.ensures
     c.run.ensures.used_in_bounds in
     full c.args.self.now.record c.args._read c.args.seek.now.search _ o _ (search rules) (search rules) c.requires.sofar
-    c.requires.wanting (omega (arith, c.requires.whole)) c.args.bytes.now _ x (sym c.unwrap-looked.ensures ∙ c.run.ensures.value) c.run.ensures.out_after
-    bounds c.args._piece c.requires.fetched c.requires.judged
+    c.requires.wanting (omega (arith, c.requires.whole)) c.args.bytes.now _ x (sym c.unwrap-looked.ensures ∙ c.run.ensures.value)
+    c.run.ensures.out_after bounds c.args._piece c.requires.fetched c.requires.judged
